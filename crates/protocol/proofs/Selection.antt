@@ -1,0 +1,38 @@
+-- A type with a selector: what its value leads to.
+use Prim.Native.Nat.{ℕ, _+_, _≤_, _<_}
+use mathlib.Core.Path.{_≡_, refl}
+use mathlib.Core.Bool.{Bool, true, false, cond}
+use mathlib.Core.List.{List}
+use borrow.Author.Tests.{le-ltb, lt-ltb}
+use lib.Dec.{eqb, leb, ltb}
+use lib.ListN.{length, getD}
+use Rattle.protocol.specs.Rule.{Rule}
+use Rattle.protocol.specs.Types.{Selection, select, MessageType, types, typeOf}
+use Rattle.protocol.specs.declared.Way.{Way}
+use Rattle.protocol.specs.Decode.{Answer, refused, wrongSize, header, decodeSelection, decodeType, decodeTyped, decodeWay, decode}
+
+-- too short for its selectors
+pub too-short : (t : MessageType) (s : List ℕ) → length s < header + t .selectors → decodeType t s ≡ wrongSize
+unfolding decodeType
+too-short t s h = rw (lt-ltb (length s) (header + t .selectors) h)
+
+-- long enough: the selection decides
+pub long-enough : (t : MessageType) (s : List ℕ) → header + t .selectors ≤ length s → decodeType t s ≡ decodeSelection (t .selection) s
+unfolding decodeType
+long-enough t s h = rw (le-ltb (length s) (header + t .selectors) h)
+
+-- the selector at an offset is v
+pub selected : (offset : ℕ) (rule : Rule) (next : ℕ → Selection) (s : List ℕ) (v : ℕ) → getD s (header + offset) 0 ≡ v
+    → decodeSelection (select offset rule next) s ≡ cond (rule v) (decodeSelection (next v) s) (refused 7 (header + offset))
+selected offset rule next s v e = rw e
+
+-- the type byte is v
+pub typed : (way : Way) (s : List ℕ) (v : ℕ) → getD s 2 0 ≡ v → decodeWay way s ≡ decodeTyped (typeOf v (types way)) s
+unfolding decodeWay
+typed way s v e = rw e
+
+-- the length and the hub id are good: the type decides
+pub headed : (way : Way) (s : List ℕ) → eqb (length s) 0 ≡ false → leb 128 (getD s 0 0) ≡ false → eqb (getD s 0 0) (length s) ≡ true → ltb (length s) 3 ≡ false → eqb (getD s 1 0) 0 ≡ true
+    → decode way s ≡ decodeWay way s
+unfolding decode
+headed way s a b d e f = rw (a, b, d, e, f)

@@ -1,0 +1,9 @@
+pub mod Number
+pub mod Rule
+pub mod Field
+pub mod Properties
+pub mod Form
+pub mod Types
+pub mod Decode
+pub mod Answer
+pub mod Examples
