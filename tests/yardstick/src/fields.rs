@@ -47,8 +47,8 @@ impl<'a> Fields<'a> {
         }
     }
 
-    /// Judges a selector that isn't the next field, and leaves it to be taken in its turn.
-    pub(crate) fn selector_ahead(&self, place: usize, listed: impl Fn(u8) -> bool) -> Result<u8, Refusal> {
+    /// Judges the byte at a place by its list, and leaves it to be taken in its turn.
+    pub(crate) fn listed_at(&self, place: usize, listed: impl Fn(u8) -> bool) -> Result<u8, Refusal> {
         let byte = self.message[place];
         if listed(byte) {
             Ok(byte)
@@ -57,22 +57,17 @@ impl<'a> Fields<'a> {
         }
     }
 
+    /// Takes a byte that has a list.
+    pub(crate) fn byte_of(&mut self, listed: impl Fn(u8) -> bool) -> Result<u8, Refusal> {
+        self.listed_at(self.place, listed)?;
+        Ok(self.byte())
+    }
+
     /// Takes a byte that may be any.
     pub(crate) fn byte(&mut self) -> u8 {
         let [byte] = self.take();
         self.values.push(byte);
         byte
-    }
-
-    /// Takes a byte that has a list.
-    pub(crate) fn byte_of(&mut self, listed: impl Fn(u8) -> bool) -> Result<u8, Refusal> {
-        let place = self.place;
-        let byte = self.byte();
-        if listed(byte) {
-            Ok(byte)
-        } else {
-            Err(Refusal::field(place))
-        }
     }
 
     /// Takes a port, which may be any.

@@ -20,7 +20,7 @@ pub(crate) fn request(mut fields: Fields) -> Result<Decoded, Refusal> {
 /// Port Mode Information, 44. The information type is a selector, so it is judged before the mode to its left.
 pub(crate) fn information(mut fields: Fields) -> Result<Decoded, Refusal> {
     fields.selectors_up_to(5)?;
-    let information_type = fields.selector_ahead(5, is_information_type)?;
+    let information_type = fields.listed_at(5, is_information_type)?;
     match information_type {
         0 => fields.size_in(7..=17)?,
         1..=3 => fields.size_is(14)?,
