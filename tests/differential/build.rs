@@ -1,0 +1,26 @@
+//! Links the product's static library. Its folder is `target/staticlib` at the repository root, or the one that
+//! CASTANETASH_LIB names, absolute or seen from the root.
+
+use std::env;
+use std::path::Path;
+
+fn main() {
+    let manifest = env::var("CARGO_MANIFEST_DIR").expect("cargo sets it");
+    let root = Path::new(&manifest)
+        .ancestors()
+        .nth(2)
+        .expect("this package lies two folders below the root");
+    let folder = env::var("CASTANETASH_LIB").unwrap_or_else(|_| "target/staticlib".to_owned());
+    let folder = root.join(folder);
+    let archive = folder.join("libcapi.a");
+    if !archive.exists() {
+        println!(
+            "cargo:warning=the product's library {} doesn't exist",
+            archive.display()
+        );
+    }
+    println!("cargo:rustc-link-search=native={}", folder.display());
+    println!("cargo:rustc-link-lib=static=capi");
+    println!("cargo:rerun-if-changed={}", archive.display());
+    println!("cargo:rerun-if-env-changed=CASTANETASH_LIB");
+}

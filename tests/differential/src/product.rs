@@ -1,0 +1,35 @@
+use yardstick::Way;
+
+use crate::cells::{Cells, CELLS};
+
+mod interface {
+    extern "C" {
+        pub fn castanetash_read(
+            message: *const u8,
+            message_len: usize,
+            way: u8,
+            cells: *mut u64,
+            cells_len: usize,
+        ) -> usize;
+    }
+}
+
+/// The product's reading of one message, as its C interface gives it. Way 0 is down, any other up.
+#[allow(unsafe_code)]
+pub fn castanetash_read(message: &[u8], way: u8, cells: &mut [u64]) -> usize {
+    // SAFETY: each pointer comes from a slice of the length passed with it; the callee keeps neither pointer, reads
+    // only the message and writes only the cells.
+    unsafe { interface::castanetash_read(message.as_ptr(), message.len(), way, cells.as_mut_ptr(), cells.len()) }
+}
+
+/// The product's answer to one message. Every cell has to be filled: each holds something else beforehand.
+pub fn read(way: Way, message: &[u8]) -> Cells {
+    let mut cells = [u64::MAX; CELLS];
+    let way = match way {
+        Way::Down => 0,
+        Way::Up => 1,
+    };
+    let filled = castanetash_read(message, way, &mut cells);
+    assert_eq!(filled, CELLS, "the product fills all cells");
+    cells
+}

@@ -1,0 +1,98 @@
+use std::fmt;
+
+use yardstick::{decode, Form, Way};
+
+use crate::cells::{cells, Cells};
+use crate::product;
+
+/// Compares the two programs, and counts what was compared.
+pub struct Tally {
+    messages: u64,
+    refusals: [u64; 8],
+    forms: [u64; Form::COUNT + 1],
+}
+
+impl Default for Tally {
+    fn default() -> Tally {
+        Tally {
+            messages: 0,
+            refusals: [0; 8],
+            forms: [0; Form::COUNT + 1],
+        }
+    }
+}
+
+impl Tally {
+    /// Reads a message by both programs. Panics if the answers differ in any cell.
+    pub fn compare(&mut self, way: Way, message: &[u8]) {
+        let answer = cells(&decode(way, message));
+        let product = product::read(way, message);
+        if answer != product {
+            differ(way, message, &answer, &product);
+        }
+        self.messages += 1;
+        self.refusals[answer[0] as usize] += 1;
+        self.forms[answer[2] as usize] += 1;
+    }
+
+    /// Compares a message both ways.
+    pub fn compare_both_ways(&mut self, message: &[u8]) {
+        for way in Way::BOTH {
+            self.compare(way, message);
+        }
+    }
+
+    /// How many messages were compared.
+    pub fn messages(&self) -> u64 {
+        self.messages
+    }
+
+    /// Panics unless every refusal in `numbers` was seen at least `least` times; 0 stands for acceptance.
+    pub fn expect_refusals(&self, numbers: impl IntoIterator<Item = usize>, least: u64) {
+        for number in numbers {
+            let seen = self.refusals[number];
+            assert!(
+                seen >= least,
+                "refusal {number} was seen {seen} times, not {least}\n{self}"
+            );
+        }
+    }
+
+    /// Panics unless every form was accepted at least `least` times.
+    pub fn expect_forms(&self, least: u64) {
+        for (number, &seen) in self.forms.iter().enumerate().skip(1) {
+            assert!(
+                seen >= least,
+                "form {number} was seen {seen} times, not {least}\n{self}"
+            );
+        }
+    }
+}
+
+impl fmt::Display for Tally {
+    fn fmt(&self, f: &mut fmt::Formatter) -> fmt::Result {
+        write!(f, "{} messages\nrefusals", self.messages)?;
+        for (number, seen) in self.refusals.iter().enumerate() {
+            write!(f, " {number}:{seen}")?;
+        }
+        write!(f, "\nforms")?;
+        for (number, seen) in self.forms.iter().enumerate().skip(1) {
+            write!(f, " {number}:{seen}")?;
+        }
+        Ok(())
+    }
+}
+
+/// Bytes in hex, with blanks between them.
+fn hex(bytes: &[u8]) -> String {
+    let bytes: Vec<String> = bytes.iter().map(|byte| format!("{byte:02X}")).collect();
+    bytes.join(" ")
+}
+
+#[cold]
+fn differ(way: Way, message: &[u8], answer: &Cells, product: &Cells) -> ! {
+    panic!(
+        "the programs differ on `{}` {way:?}\nsecond program {answer:?}\nproduct        {product:?}",
+        hex(message)
+    );
+}

@@ -1,0 +1,34 @@
+//! Both programs give every answer that is written out by hand.
+
+use differential::{cells, read, Tally};
+use yardstick::decode;
+use yardstick::examples::{Example, BENCH, FORMS, ORDER};
+
+fn check(examples: &[Example]) -> Tally {
+    let mut tally = Tally::default();
+    for example in examples {
+        let message = example.bytes();
+        let answer = example.answer();
+        let name = format!("`{}` {:?}", example.message, example.way);
+        assert_eq!(decode(example.way, &message), answer, "second program on {name}");
+        assert_eq!(read(example.way, &message), cells(&answer), "product on {name}");
+        tally.compare(example.way, &message);
+    }
+    println!("{tally}");
+    tally
+}
+
+#[test]
+fn bench_examples() {
+    check(BENCH).expect_refusals(0..=7, 1);
+}
+
+#[test]
+fn form_examples() {
+    check(FORMS).expect_forms(1);
+}
+
+#[test]
+fn order_examples() {
+    check(ORDER).expect_refusals(2..=7, 1);
+}

@@ -1,0 +1,79 @@
+//! Messages with the answers they have to get, written out by hand from the documents. Both programs are held to them.
+
+mod bench;
+mod forms;
+mod order;
+
+use std::ops::Range;
+
+use crate::decoded::Decoded;
+use crate::form::Form;
+use crate::refusal::Refusal;
+use crate::values::Values;
+use crate::way::Way;
+
+pub use bench::BENCH;
+pub use forms::FORMS;
+pub use order::ORDER;
+
+/// A message with its answer.
+pub struct Example {
+    /// The message's way.
+    pub way: Way,
+    /// The message's bytes in hex, with blanks between them.
+    pub message: &'static str,
+    answer: Answer,
+}
+
+enum Answer {
+    Refused(Refusal),
+    Accepted {
+        form: Form,
+        values: &'static [u64],
+        open: Range<usize>,
+    },
+}
+
+impl Example {
+    /// The message's bytes.
+    pub fn bytes(&self) -> Vec<u8> {
+        let byte = |digits| u8::from_str_radix(digits, 16).expect("a message is written in hex");
+        self.message.split_whitespace().map(byte).collect()
+    }
+
+    /// The answer that reading the message has to give.
+    pub fn answer(&self) -> Result<Decoded, Refusal> {
+        match &self.answer {
+            Answer::Refused(refusal) => Err(*refusal),
+            Answer::Accepted { form, values, open } => {
+                let mut all = Values::default();
+                values.iter().for_each(|&value| all.push(value));
+                Ok(Decoded {
+                    form: *form,
+                    open: open.clone(),
+                    values: all,
+                })
+            }
+        }
+    }
+}
+
+const fn refused(way: Way, message: &'static str, number: u8, place: usize) -> Example {
+    Example {
+        way,
+        message,
+        answer: Answer::Refused(Refusal { number, place }),
+    }
+}
+
+const fn accepted(way: Way, message: &'static str, form: Form, values: &'static [u64]) -> Example {
+    with_open(way, message, form, values, 0..0)
+}
+
+const fn with_open(way: Way, message: &'static str, form: Form, values: &'static [u64], open: Range<usize>) -> Example {
+    Example {
+        way,
+        message,
+        answer: Answer::Accepted { form, values, open },
+    }
+}
