@@ -6,3 +6,4 @@ pub mod Signed
 pub mod Tests
 pub mod FixedString
 pub mod Table
+pub mod Bits

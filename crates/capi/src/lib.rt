@@ -1,0 +1,78 @@
+// The product for callers in C and Rust: functions over numbers and slices.
+mod message;
+
+use crate::message::message_cells;
+use codec::open_part;
+use codec::read;
+use protocol::Reading;
+use protocol::Way;
+ghost use mathlib.Core.Path.{_≡_};
+ghost use Prim.Native.Nat.{_≤_};
+ghost use lib.ListN.{drop, length};
+ghost use mathlib.Core.List.{_++_};
+ghost use Rattle.protocol.specs.Answer.{answerOf};
+ghost use Rattle.capi.specs.Cells.{cellsAfter, cellsOf, filled, openStart, wayOf};
+
+fn way_of(way: u8) -> Way
+    ensures { λ r. ⌜ r ≡ wayOf way ⌝ }
+{
+    if way == 0 { Way::Down } else { Way::Up }
+}
+
+// Where the last `count` of `size` bytes start; 0 where there are none.
+fn open_start(size: u64, count: u64) -> u64
+    requires { ⌜ count ≤ size ⌝ }
+    ensures { λ r. ⌜ r ≡ openStart size count ⌝ }
+{
+    if count == 0 { 0 } else { size - count }
+}
+
+// The cells of a reading of a message of `size` bytes, the last `count` of which are open.
+fn cells_of(reading: Reading, size: u64, count: u64) -> [u64; 20]
+    requires { ⌜ count ≤ size ⌝ }
+    ensures { λ r. ⌜ r ≡ cellsOf size count (answerOf reading) ⌝ }
+{
+    match reading {
+        Reading::Refused { number, place } => {
+            let mut cells = [0u64; 20];
+            cells[0] = number as u64;
+            cells[1] = place as u64;
+            cells
+        }
+        Reading::Accepted(m) => {
+            let mut cells = message_cells(m);
+            cells[3] = open_start(size, count);
+            cells[4] = count;
+            cells
+        }
+    }
+}
+
+// Puts 20 cells in front of what stands behind them.
+fn put(cells: &mut [u64], from: [u64; 20])
+    requires { ⌜ (20 ≤ length (now cells)) × (length from ≡ 20) ⌝ }
+    ensures { λ _. ⌜ now (cells .exit) ≡ from ++ drop 20 (now (cells .entry)) ⌝ }
+{
+    let mut i = 0;
+    while i < 20 {
+        cells[i] = from[i];
+        i += 1;
+    }
+}
+
+// Reads one message (`way`: 0 down, else up) and fills the first 20 cells: refusal number (0:
+// accepted), place, form (from 1), where the open bytes start, how many they are, how many values,
+// the values from left to right. Returns 20; 0 where there are fewer cells, of which none changes.
+#[no_mangle]
+pub extern "C" fn castanetash_read(message: &[u8], way: u8, cells: &mut [u64]) -> usize
+    ensures { λ r. ⌜ (r ≡ filled (now (cells .entry))) × (now (cells .exit) ≡ cellsAfter way (now (message .entry)) (now (cells .entry))) ⌝ }
+{
+    if cells.len() < 20 {
+        return 0;
+    }
+    let w = way_of(way);
+    let reading = read(message, w);
+    let open = open_part(message, w).len();
+    put(cells, cells_of(reading, message.len() as u64, open as u64));
+    20
+}
