@@ -86,10 +86,22 @@ impl<'a> Fields<'a> {
         self.values.push(u16::from_le_bytes(bytes));
     }
 
-    /// Takes four bytes, little-endian. A signed number is kept as its bits.
+    /// Takes four bytes, little-endian.
     pub(crate) fn four_bytes(&mut self) {
         let bytes = self.take();
         self.values.push(u32::from_le_bytes(bytes));
+    }
+
+    /// Takes a signed byte, and keeps it in two's complement of 64 bits.
+    pub(crate) fn signed_byte(&mut self) {
+        let bytes = self.take();
+        self.values.push(i64::from(i8::from_le_bytes(bytes)) as u64);
+    }
+
+    /// Takes a signed number of four bytes, little-endian, and keeps it in two's complement of 64 bits.
+    pub(crate) fn signed_four_bytes(&mut self) {
+        let bytes = self.take();
+        self.values.push(i64::from(i32::from_le_bytes(bytes)) as u64);
     }
 
     /// Takes six bytes, the most significant first.

@@ -51,8 +51,8 @@ pub(crate) fn attached_io(mut fields: Fields) -> Result<Decoded, Refusal> {
         1 => {
             fields.size_is(15)?;
             fields.two_bytes(); // device
-            fields.four_bytes(); // hardware revision
-            fields.four_bytes(); // software revision
+            fields.signed_four_bytes(); // hardware revision
+            fields.signed_four_bytes(); // software revision
             fields.accept(Form::Attached)
         }
         _ => {

@@ -24,12 +24,12 @@ pub(crate) fn property(way: Way, mut fields: Fields) -> Result<Decoded, Refusal>
         2 | 7 => byte(fields, 0..=1),
         3 | 4 => {
             fields.size_is(9)?;
-            fields.four_bytes();
+            fields.signed_four_bytes();
             fields.accept(Form::PropertyVersion)
         }
         5 => {
             fields.size_is(6)?;
-            fields.byte();
+            fields.signed_byte();
             fields.accept(Form::PropertyRssi)
         }
         6 => byte(fields, 0..=100),

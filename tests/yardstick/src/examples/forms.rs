@@ -25,11 +25,11 @@ pub const FORMS: &[Example] = &[
     accepted(Up, "06 00 01 0C 06 00", Form::PropertyByte, &[12, 6, 0]),
     accepted(Down, "06 00 01 0F 01 08", Form::PropertyByte, &[15, 1, 8]),
     accepted(Up, "06 00 01 0F 06 08", Form::PropertyByte, &[15, 6, 8]),
-    // 01 with a signed byte, here -60, kept as its bits.
-    accepted(Up, "06 00 01 05 06 C4", Form::PropertyRssi, &[5, 6, 0xC4]),
-    // 01 with a version: 1.7.37.1510, and -1 kept as its bits.
+    // 01 with a signed byte, here -60.
+    accepted(Up, "06 00 01 05 06 C4", Form::PropertyRssi, &[5, 6, -60_i64 as u64]),
+    // 01 with a version: 1.7.37.1510, and -1.
     accepted(Up, "09 00 01 03 06 10 15 37 17", Form::PropertyVersion, &[3, 6, 0x1737_1510]),
-    accepted(Up, "09 00 01 04 06 FF FF FF FF", Form::PropertyVersion, &[4, 6, 0xFFFF_FFFF]),
+    accepted(Up, "09 00 01 04 06 FF FF FF FF", Form::PropertyVersion, &[4, 6, -1_i64 as u64]),
     // 01 with the protocol version 3.0.
     accepted(Up, "07 00 01 0A 06 00 03", Form::PropertyProtocol, &[10, 6, 0x0300]),
     // 01 with a MAC address.
@@ -49,7 +49,7 @@ pub const FORMS: &[Example] = &[
     // 04.
     accepted(Up, "05 00 04 32 00", Form::Detached, &[50, 0]),
     accepted(Up, "0F 00 04 FF 01 27 01 78 56 34 12 EF CD AB 90",
-        Form::Attached, &[255, 1, 0x0127, 0x1234_5678, 0x90AB_CDEF]),
+        Form::Attached, &[255, 1, 0x0127, 0x1234_5678, -0x6F54_3211_i64 as u64]),
     accepted(Up, "09 00 04 39 02 27 01 37 38", Form::AttachedVirtual, &[0x39, 2, 0x0127, 0x37, 0x38]),
     // 05: the command type may be any.
     accepted(Up, "05 00 05 00 01", Form::GenericError, &[0, 1]),
