@@ -31,7 +31,7 @@ pub finite-bits : (n : ℕ) → isFinite (ofBits binary32 n) ≡ not (eqb (n % 2
 unfolding ofBits
 finite-bits n = fields-finite _ (n % 2147483648 / 8388608) (n % 8388608)
 
-not-nan : (v : Float) → isFinite v ≡ true → T (not (isNan v))
+pub not-nan : (v : Float) → isFinite v ≡ true → T (not (isNan v))
 unfolding isNan
 not-nan nan e = let z : _≡_ {A = ℕ} 0 1 = cc in absurd (omega arith)
 not-nan (inf s) e = tt

@@ -1,5 +1,11 @@
 pub mod Answers
 pub mod Examples
+pub mod FieldTrip
+pub mod FieldsTrip
+pub mod FormTrip
+pub mod RestTrip
+pub mod RoundTrip
+pub mod SelectionTrip
 pub mod Floats
 pub mod Selection
 pub mod Signed
@@ -7,3 +13,4 @@ pub mod Tests
 pub mod FixedString
 pub mod Table
 pub mod Bits
+pub mod Bytes

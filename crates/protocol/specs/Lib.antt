@@ -6,4 +6,6 @@ pub mod Form
 pub mod Types
 pub mod Decode
 pub mod Answer
+pub mod Encode
+pub mod RoundTrip
 pub mod Examples

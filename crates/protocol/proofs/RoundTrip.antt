@@ -1,0 +1,486 @@
+-- Demand 2: what reading accepts, writing gives back byte for byte; what writing accepts, reading gives back field for field.
+use Prim.Native.Nat.{ℕ, zero, suc, _+_, _-_, _%_, _≤_, _<_}
+use native.Mathlib.Nat.{add-zero, add-suc, add-assoc}
+use native.Mathlib.Omega.{arith}
+use mathlib.Core.Path.{_≡_, refl, sym, _∙_, ap}
+use mathlib.Core.Bool.{Bool, true, false, cond, _&&_}
+use mathlib.Core.List.{List, [], _∷_, _++_}
+use mathlib.Core.Logic.{⊎-elim}
+use mathlib.Core.Option.{Option, none, some}
+use borrow.Author.Tests.{eqb-true, eqb-false, eq-eqb, ne-eqb, leb-true, lt-leb, ltb-false, le-ltb}
+use lib.Dec.{eqb, leb, ltb}
+use lib.ListN.{length, getD, take, drop, length-drop}
+use lib.Seq.{getD-take, getD-drop}
+use Rattle.protocol.specs.Number.{Bytes}
+use Rattle.protocol.specs.Field.{Field, Value, natural, Fields, values, widths, andThen, readFields}
+use Rattle.protocol.specs.Field as Field'
+use Rattle.protocol.specs.Form
+use Rattle.protocol.specs.Form.{Form, layout, longestModeText, fits, readRest, openBytes}
+use Rattle.protocol.specs.Properties.{longest}
+use Rattle.protocol.specs.Types.{Selection, always, select, MessageType, types, typeOf}
+use Rattle.protocol.specs.Decode.{Answer, accepted, wrongSize, header, valuesOrRefusal, decodeForm, decodeSelection, decodeType, decodeTyped, decodeWay, decode, openOf, openPart}
+use Rattle.protocol.specs.Decode as Decode'
+use Rattle.protocol.specs.Answer.{naturalAt, formOf, valuesOf}
+use Rattle.protocol.specs.Encode.{Encoded, encoded, framed, code, formNumber, argument, sameForm, afterFields, encodeForm, encodeSelection, encodeTyped, encodeValues, encode, settledValues}
+use Rattle.protocol.specs.RoundTrip.{settled, ReadThenWritten, WrittenThenRead, RefusedOnly}
+use Rattle.protocol.specs.Encode as Encode'
+use Rattle.protocol.specs.declared.Combinations.{Combinations}
+use Rattle.protocol.specs.declared.Message.{Message}
+use Rattle.protocol.specs.declared.Message.the-variants as Message'
+use Rattle.protocol.specs.declared.Way.{Way}
+use Rattle.protocol.proofs.Tests.{which, and-left, and-right}
+use Rattle.protocol.proofs.FormTrip.{Read, was-read, form-written, Shaped, FormRead, form-read}
+use Rattle.protocol.proofs.Selection.{headed as head, typed, long-enough}
+use Rattle.protocol.proofs.SelectionTrip.{Narrow, narrow-read, narrow-written, narrow-widths, Fitting, Leads, leads}
+
+-- ---- what was read is written back
+
+-- a refusal that did not come
+not-refused : (b : Bool) (n p : ℕ) (x : Answer) (f : Form) (vs : List Value) → cond b (Decode'.refused n p) x ≡ accepted f vs → (b ≡ false) × (x ≡ accepted f vs)
+not-refused true n p x f vs e = let z : _≡_ {A = ℕ} 0 1 = cc in absurd (omega arith)
+not-refused false n p x f vs e = (refl, e)
+
+not-else : (b : Bool) (n p : ℕ) (x : Answer) (f : Form) (vs : List Value) → cond b x (Decode'.refused n p) ≡ accepted f vs → (b ≡ true) × (x ≡ accepted f vs)
+not-else true n p x f vs e = (refl, e)
+not-else false n p x f vs e = let z : _≡_ {A = ℕ} 0 1 = cc in absurd (omega arith)
+
+-- the facts of a header that reading passed
+record Headed (way : Way) (s : List ℕ) (f : Form) (vs : List Value) : Type 0 where
+  size : getD s 0 0 ≡ length s
+  least : 3 ≤ length s
+  hub : getD s 1 0 ≡ 0
+  rest : decodeWay way s ≡ accepted f vs
+
+headed : (way : Way) (s : List ℕ) (f : Form) (vs : List Value) → decode way s ≡ accepted f vs → Headed way s f vs
+unfolding decode
+headed way s f vs e =
+    let n1 = not-refused (eqb (length s) 0) 1 0 _ f vs e in
+    let n2 = not-refused (leb 128 (getD s 0 0)) 2 0 _ f vs (n1 .1) in
+    let n3 = not-else (eqb (getD s 0 0) (length s)) 3 0 _ f vs (n2 .1) in
+    let n4 = not-refused (ltb (length s) 3) 3 0 _ f vs (n3 .1) in
+    let n5 = not-else (eqb (getD s 1 0) 0) 4 1 _ f vs (n4 .1) in
+    record {
+      size = eqb-true (getD s 0 0) (length s) (n3 .0);
+      least = ltb-false (length s) 3 (n4 .0);
+      hub = eqb-true (getD s 1 0) 0 (n5 .0);
+      rest = n5 .1;
+    }
+
+-- the type that was found
+record TypeFound (way : Way) (s : List ℕ) (f : Form) (vs : List Value) : Type 0 where
+  type : MessageType
+  found : typeOf (getD s 2 0) (types way) ≡ some type
+  room : header + type .selectors ≤ length s
+  rest : decodeSelection (type .selection) s ≡ accepted f vs
+
+type-found : (way : Way) (s : List ℕ) (f : Form) (vs : List Value) → decodeWay way s ≡ accepted f vs → TypeFound way s f vs
+unfolding decodeWay decodeType
+type-found way s f vs e = go (typeOf (getD s 2 0) (types way)) refl e
+  where
+    go : (o : Option MessageType) → typeOf (getD s 2 0) (types way) ≡ o → decodeTyped o s ≡ accepted f vs → TypeFound way s f vs
+    go none k g = let z : _≡_ {A = ℕ} 0 1 = cc in absurd (omega arith)
+    go (some t) k g =
+        let n = not-refused (ltb (length s) (header + t .selectors)) 6 0 _ f vs g in
+        record { type = t; found = k; room = ltb-false (length s) (header + t .selectors) (n .0); rest = n .1 }
+
+-- an accepted form is the one that was tried
+form-is : (g : Form) (s : List ℕ) (f : Form) (vs : List Value) → decodeForm g s ≡ accepted f vs → g ≡ f
+unfolding decodeForm
+form-is g s f vs e =
+    let x : Fields = andThen (readFields s header (layout g .fields)) (readRest s (header + widths (layout g .fields)) (layout g .rest)) in
+    let n = not-else (fits (layout g .rest) (header + widths (layout g .fields)) (length s)) 6 0 (valuesOrRefusal g x) f vs e in
+    go x (n .1)
+  where
+    go : (x : Fields) → valuesOrRefusal g x ≡ accepted f vs → g ≡ f
+    go (Field'.outside at) k = let z : _≡_ {A = ℕ} 0 1 = cc in absurd (omega arith)
+    go (values us) k = cc
+
+-- forms by their number and argument
+abbrev forms : ℕ → List Form
+forms a =
+    Form.lockStatusRequest
+    ∷ Form.propertyCommand
+    ∷ (Form.propertyText a)
+    ∷ (Form.propertyByte a)
+    ∷ Form.propertyRssi
+    ∷ Form.propertyVersion
+    ∷ Form.propertyProtocol
+    ∷ Form.propertyAddress
+    ∷ Form.hubAction
+    ∷ Form.alertCommand
+    ∷ Form.alertUpdate
+    ∷ Form.detached
+    ∷ Form.attached
+    ∷ Form.attachedVirtual
+    ∷ Form.genericError
+    ∷ Form.goIntoBootMode
+    ∷ Form.lockMemory
+    ∷ Form.lockStatusRequest
+    ∷ Form.lockStatus
+    ∷ Form.portInformationRequest
+    ∷ Form.modeInformationRequest
+    ∷ Form.inputFormatSetup
+    ∷ Form.portModes
+    ∷ Form.portCombinations
+    ∷ (Form.modeText a)
+    ∷ Form.modeRange
+    ∷ Form.modeMapping
+    ∷ Form.modeBias
+    ∷ Form.modeCapabilities
+    ∷ Form.valueFormat
+    ∷ Form.portValue
+    ∷ Form.inputFormat
+    ∷ Form.virtualDisconnect
+    ∷ Form.virtualConnect
+    ∷ []
+
+form-back : (f : Form) → getD (forms (argument f)) (formNumber f) Form.lockStatusRequest ≡ f
+form-back Form.propertyCommand = refl
+form-back (Form.propertyText a) = refl
+form-back (Form.propertyByte a) = refl
+form-back Form.propertyRssi = refl
+form-back Form.propertyVersion = refl
+form-back Form.propertyProtocol = refl
+form-back Form.propertyAddress = refl
+form-back Form.hubAction = refl
+form-back Form.alertCommand = refl
+form-back Form.alertUpdate = refl
+form-back Form.detached = refl
+form-back Form.attached = refl
+form-back Form.attachedVirtual = refl
+form-back Form.genericError = refl
+form-back Form.goIntoBootMode = refl
+form-back Form.lockMemory = refl
+form-back Form.lockStatusRequest = refl
+form-back Form.lockStatus = refl
+form-back Form.portInformationRequest = refl
+form-back Form.modeInformationRequest = refl
+form-back Form.inputFormatSetup = refl
+form-back Form.portModes = refl
+form-back Form.portCombinations = refl
+form-back (Form.modeText a) = refl
+form-back Form.modeRange = refl
+form-back Form.modeMapping = refl
+form-back Form.modeBias = refl
+form-back Form.modeCapabilities = refl
+form-back Form.valueFormat = refl
+form-back Form.portValue = refl
+form-back Form.inputFormat = refl
+form-back Form.virtualDisconnect = refl
+form-back Form.virtualConnect = refl
+
+same-form : (f : Form) → sameForm f f ≡ true
+same-form f = rw (eq-eqb (formNumber f) (formNumber f) refl, eq-eqb (argument f) (argument f) refl)
+
+form-same : (f g : Form) → sameForm f g ≡ true → f ≡ g
+form-same f g e =
+    let n : formNumber f ≡ formNumber g = eqb-true (formNumber f) (formNumber g) (and-left (eqb (formNumber f) (formNumber g)) (eqb (argument f) (argument g)) e) in
+    let a : argument f ≡ argument g = eqb-true (argument f) (argument g) (and-right (eqb (formNumber f) (formNumber g)) (eqb (argument f) (argument g)) e) in
+    sym (form-back f) ∙ ap (λ (k : ℕ). getD (forms (argument f)) k Form.lockStatusRequest) n ∙ ap (λ (k : ℕ). getD (forms k) (formNumber g) Form.lockStatusRequest) a ∙ form-back g
+
+-- the selectors that reading followed lead writing to the same form
+record Chosen (c k : ℕ) (sel : Selection) (s : List ℕ) (f : Form) (vs : List Value) : Type 0 where
+  form : decodeForm f s ≡ accepted f vs
+  fit : Fitting c k f
+  writes : (last : ℕ) (opens : List ℕ) → encodeSelection sel f last vs opens ≡ encodeForm f vs opens
+
+chosen : (c k : ℕ) (sel : Selection) → Leads c k sel → (s : List ℕ) (f : Form) (vs : List Value) → decodeSelection sel s ≡ accepted f vs → Chosen c k sel s f vs
+chosen c k (always g) lead s f vs e =
+    let same : g ≡ f = form-is g s f vs e in
+    record {
+      form = ap (λ (x : Form). decodeForm x s) (sym same) ∙ e;
+      fit = rw same at lead;
+      writes = λ last opens. ap (λ (x : Form). encodeSelection (always x) f last vs opens) same ∙ rw (same-form f);
+    }
+chosen c k (select offset rule next) lead s f vs e =
+    let v : ℕ = getD s (header + offset) 0 in
+    let n = not-else (rule v) 7 (header + offset) (decodeSelection (next v) s) f vs e in
+    let deeper = chosen c k (next v) (lead .1 v) s f vs (n .1) in
+    let both = was-read f s vs (deeper .form) .both in
+    let is : naturalAt vs offset ≡ v =
+    ap (λ (l : List Value). naturalAt l offset) (both .joined)
+    ∙ narrow-read k (layout f .fields) (deeper .fit .1) s header (both .first) (both .second) (both .first-is) offset (lead .0)
+    in
+    record { form = deeper .form; fit = deeper .fit; writes = λ last opens. rw (is, n .0) (deeper .writes last opens) }
+
+framed-back : (s : List ℕ) (c : ℕ) → 3 ≤ length s → getD s 0 0 ≡ length s → getD s 1 0 ≡ 0 → getD s 2 0 ≡ c → framed c (drop header s) ≡ s
+framed-back [] c h a b d = absurd (omega arith)
+framed-back (x ∷ []) c h a b d = absurd (omega arith)
+framed-back (x ∷ y ∷ []) c h a b d = absurd (omega arith)
+framed-back (x ∷ y ∷ z ∷ s) c h a b d =
+    let size : header + length s ≡ x = omega arith in
+    rw (size, ← b, ← d)
+
+pub values-written : (way : Way) (s : List ℕ) → Bytes s → (f : Form) (vs : List Value) → decode way s ≡ accepted f vs → encodeValues way f vs (openPart way s) ≡ encoded s
+unfolding encodeValues openPart
+values-written way s b f vs e =
+    let h = headed way s f vs e in
+    let t = type-found way s f vs (h .rest) in
+    let type : MessageType = t .type in
+    let ch = chosen (getD s 2 0) (type .selectors) (type .selection) (leads way (getD s 2 0) type (t .found)) s f vs (t .rest) in
+    let opens : List ℕ = openBytes s (header + widths (layout f .fields)) (layout f .rest) in
+    let found : typeOf (code f) (types way) ≡ some type = ap (λ (k : ℕ). typeOf k (types way)) (ch .fit .0) ∙ t .found in
+    let written : encodeForm f vs opens ≡ encoded (framed (code f) (drop header s)) = form-written f s b vs (ch .form) in
+    let bytes : framed (code f) (drop header s) ≡ s = framed-back s (code f) (h .least) (h .size) (h .hub) (sym (ch .fit .0)) in
+    rw (found, e) (ch .writes (header + type .selectors - 1) opens ∙ written ∙ ap encoded bytes)
+
+-- ---- what was written is read back
+
+-- no message is longer than 127 bytes
+exact : (end n : ℕ) → end ≤ 127 → eqb n end ≡ true → n ≤ 127
+exact end n h e = omega (arith, eqb-true n end e)
+
+ranged : (low high n : ℕ) → high ≤ 127 → (leb low n && leb n high) ≡ true → n ≤ 127
+ranged low high n h e = omega (arith, leb-true n high (and-right (leb low n) (leb n high) e))
+
+longest-le : (property : ℕ) → 5 + longest property ≤ 127
+unfolding longest
+longest-le property = either (eqb property 1)
+  where
+    either : (b : Bool) → 5 + cond b 14 122 ≤ 127
+    either true = omega arith
+    either false = omega arith
+
+longest-text-le : (information : ℕ) → 6 + longestModeText information ≤ 127
+unfolding longestModeText
+longest-text-le information = either (eqb information 0)
+  where
+    either : (b : Bool) → 6 + cond b 11 5 ≤ 127
+    either true = omega arith
+    either false = omega arith
+
+short : (f : Form) (n : ℕ) → fits (layout f .rest) (header + widths (layout f .fields)) n ≡ true → n ≤ 127
+unfolding layout
+short Form.propertyCommand n e = exact _ n (omega arith) e
+short (Form.propertyText p) n e = ranged 6 (5 + longest p) n (longest-le p) e
+short (Form.propertyByte p) n e = exact _ n (omega arith) e
+short Form.propertyRssi n e = exact _ n (omega arith) e
+short Form.propertyVersion n e = exact _ n (omega arith) e
+short Form.propertyProtocol n e = exact _ n (omega arith) e
+short Form.propertyAddress n e = exact _ n (omega arith) e
+short Form.hubAction n e = exact _ n (omega arith) e
+short Form.alertCommand n e = exact _ n (omega arith) e
+short Form.alertUpdate n e = exact _ n (omega arith) e
+short Form.detached n e = exact _ n (omega arith) e
+short Form.attached n e = exact _ n (omega arith) e
+short Form.attachedVirtual n e = exact _ n (omega arith) e
+short Form.genericError n e = exact _ n (omega arith) e
+short Form.goIntoBootMode n e = exact _ n (omega arith) e
+short Form.lockMemory n e = exact _ n (omega arith) e
+short Form.lockStatusRequest n e = exact _ n (omega arith) e
+short Form.lockStatus n e = exact _ n (omega arith) e
+short Form.portInformationRequest n e = exact _ n (omega arith) e
+short Form.modeInformationRequest n e = exact _ n (omega arith) e
+short Form.inputFormatSetup n e = exact _ n (omega arith) e
+short Form.portModes n e = exact _ n (omega arith) e
+short Form.portCombinations n e = ranged 7 21 n (omega arith) (and-left (leb 7 n && leb n 21) (eqb ((n - 5) % 2) 0) e)
+short (Form.modeText i) n e = ranged 7 (6 + longestModeText i) n (longest-text-le i) e
+short Form.modeRange n e = exact _ n (omega arith) e
+short Form.modeMapping n e = exact _ n (omega arith) e
+short Form.modeBias n e = exact _ n (omega arith) e
+short Form.modeCapabilities n e = exact _ n (omega arith) e
+short Form.valueFormat n e = exact _ n (omega arith) e
+short Form.portValue n e = ranged 5 127 n (omega arith) e
+short Form.inputFormat n e = exact _ n (omega arith) e
+short Form.virtualDisconnect n e = exact _ n (omega arith) e
+short Form.virtualConnect n e = exact _ n (omega arith) e
+
+not-else-encoded : (b : Bool) (n p : ℕ) (x : Encoded) (t : List ℕ) → cond b x (Encode'.refused n p) ≡ encoded t → (b ≡ true) × (x ≡ encoded t)
+not-else-encoded true n p x t e = (refl, e)
+not-else-encoded false n p x t e = let z : _≡_ {A = ℕ} 0 1 = cc in absurd (omega arith)
+
+-- the selectors that writing followed lead reading to the same form, wherever they stand as the values say
+record Followed (c k : ℕ) (sel : Selection) (f : Form) (vs : List Value) (opens t : List ℕ) : Type 0 where
+  form : encodeForm f vs opens ≡ encoded t
+  fit : Fitting c k f
+  reads : (u : List ℕ) → ((i : ℕ) → i < k → getD u (header + i) 0 ≡ naturalAt vs i) → decodeSelection sel u ≡ decodeForm f u
+
+followed : (c k : ℕ) (sel : Selection) → Leads c k sel → (f : Form) (last : ℕ) (vs : List Value) (opens t : List ℕ) → encodeSelection sel f last vs opens ≡ encoded t → Followed c k sel f vs opens t
+followed c k (always g) lead f last vs opens t e =
+    let n = not-else-encoded (sameForm g f) 7 last (encodeForm f vs opens) t e in
+    let same : g ≡ f = form-same g f (n .0) in
+    record { form = n .1; fit = rw same at lead; reads = λ u at. ap (λ (x : Form). decodeForm x u) same }
+followed c k (select offset rule next) lead f last vs opens t e =
+    let v : ℕ = naturalAt vs offset in
+    let n = not-else-encoded (rule v) 7 (header + offset) (encodeSelection (next v) f last vs opens) t e in
+    let deeper = followed c k (next v) (lead .1 v) f last vs opens t (n .1) in
+    record { form = deeper .form; fit = deeper .fit; reads = λ u at. rw (at offset (lead .0), n .0) (deeper .reads u at) }
+
+pub record Back (way : Way) (f : Form) (vs : List Value) (opens t : List ℕ) : Type 0 where
+  pub fields : decode way t ≡ accepted f (settledValues (layout f) vs)
+  pub open-is : openPart way t ≡ opens
+
+pub values-read : (way : Way) (f : Form) (vs : List Value) (opens t : List ℕ) → Shaped (layout f .rest) (afterFields (layout f .fields) vs) → encodeValues way f vs opens ≡ encoded t → Back way f vs opens t
+unfolding encodeValues openPart
+values-read way f vs opens t shape e = go (typeOf (code f) (types way)) refl e
+  where
+    go : (o : Option MessageType) → typeOf (code f) (types way) ≡ o → encodeTyped o f vs opens ≡ encoded t → Back way f vs opens t
+    go none k g = let z : _≡_ {A = ℕ} 0 1 = cc in absurd (omega arith)
+    go (some type) k g =
+        let fs : List Field = layout f .fields in
+        let fo = followed (code f) (type .selectors) (type .selection) (leads way (code f) type k) f (header + type .selectors - 1) vs opens t g in
+        let fr = form-read f vs opens t shape (fo .form) in
+        let body : List ℕ = fr .body in
+        let u : List ℕ = framed (code f) body in
+        let few : length t ≤ 127 = short f (length t) (fr .size) in
+        let size : length t ≡ length u = ap length (fr .bytes) in
+        let room : type .selectors ≤ widths fs = narrow-widths (type .selectors) fs (fo .fit .1) in
+        let at : (i : ℕ) → i < type .selectors → getD u (header + i) 0 ≡ naturalAt vs i =
+        λ i h.
+        sym (getD-drop header u i 0) ∙ sym (getD-take (widths fs) body i 0 (omega arith))
+        ∙ narrow-written (type .selectors) fs (fo .fit .1) header vs (take (widths fs) body) (fr .front-is .0) (fr .front-is .1) i h
+        in
+        let header-good : decode way u ≡ decodeWay way u =
+        head way u (ne-eqb (length u) 0 (λ z. omega arith)) (lt-leb 128 (getD u 0 0) (omega (arith, fr .room))) (eq-eqb (getD u 0 0) (length u) (omega arith)) (le-ltb (length u) 3 (omega arith)) refl
+        in
+        let typed-as : decodeWay way u ≡ decodeType type u = typed way u (code f) refl ∙ ap (λ (o : Option MessageType). decodeTyped o u) k in
+        let whole : decode way u ≡ decodeForm f u =
+        header-good ∙ typed-as ∙ long-enough type u (omega (arith, fr .room)) ∙ fo .reads u at
+        in
+        let read : decode way t ≡ accepted f (settledValues (layout f) vs) =
+        ap (decode way) (fr .bytes) ∙ whole ∙ ap (decodeForm f) (sym (fr .bytes)) ∙ fr .read
+        in
+        record { fields = read; open-is = ap (openOf t) read ∙ fr .open-is }
+
+-- ---- for messages
+
+abbrev entriesOf : Combinations → List Value
+entriesOf c =
+    natural (c .entry0) ∷ natural (c .entry1) ∷ natural (c .entry2) ∷ natural (c .entry3) ∷ natural (c .entry4) ∷ natural (c .entry5) ∷ natural (c .entry6) ∷ natural (c .entry7) ∷ []
+
+shaped : (m : Message) → Shaped (layout (formOf m) .rest) (afterFields (layout (formOf m) .fields) (valuesOf m))
+unfolding layout
+shaped (Message'.PropertyCommand p o) = refl
+shaped (Message'.PropertyText p o) = refl
+shaped (Message'.PropertyByte p o v) = refl
+shaped (Message'.PropertyRssi o v) = refl
+shaped (Message'.PropertyVersion p o v) = refl
+shaped (Message'.PropertyProtocol o v) = refl
+shaped (Message'.PropertyAddress p o v) = refl
+shaped (Message'.HubAction a) = refl
+shaped (Message'.AlertCommand a o) = refl
+shaped (Message'.AlertUpdate a v) = refl
+shaped (Message'.Detached p) = refl
+shaped (Message'.Attached p d h s) = refl
+shaped (Message'.AttachedVirtual p d a b) = refl
+shaped (Message'.GenericError c e) = refl
+shaped Message'.GoIntoBootMode = refl
+shaped Message'.LockMemory = refl
+shaped Message'.LockStatusRequest = refl
+shaped (Message'.LockStatus v) = refl
+shaped (Message'.PortInformationRequest p i) = refl
+shaped (Message'.ModeInformationRequest p m i) = refl
+shaped (Message'.InputFormatSetup p m d n) = refl
+shaped (Message'.PortModes p c n i o) = refl
+shaped (Message'.PortCombinations p c) = (c .count, entriesOf c, refl, refl, tt)
+shaped (Message'.ModeText p m i) = refl
+shaped (Message'.ModeRange p m i l h) = refl
+shaped (Message'.ModeMapping p m v) = refl
+shaped (Message'.ModeBias p m v) = refl
+shaped (Message'.ModeCapabilities p m v) = refl
+shaped (Message'.ValueFormat p m n k f d) = refl
+shaped (Message'.PortValue p) = refl
+shaped (Message'.InputFormat p m d n) = refl
+shaped (Message'.VirtualDisconnect p) = refl
+shaped (Message'.VirtualConnect a b) = refl
+
+settled-form : (m : Message) → formOf (settled m) ≡ formOf m
+unfolding layout
+settled-form (Message'.PropertyCommand p o) = refl
+settled-form (Message'.PropertyText p o) = refl
+settled-form (Message'.PropertyByte p o v) = refl
+settled-form (Message'.PropertyRssi o v) = refl
+settled-form (Message'.PropertyVersion p o v) = refl
+settled-form (Message'.PropertyProtocol o v) = refl
+settled-form (Message'.PropertyAddress p o v) = refl
+settled-form (Message'.HubAction a) = refl
+settled-form (Message'.AlertCommand a o) = refl
+settled-form (Message'.AlertUpdate a v) = refl
+settled-form (Message'.Detached p) = refl
+settled-form (Message'.Attached p d h s) = refl
+settled-form (Message'.AttachedVirtual p d a b) = refl
+settled-form (Message'.GenericError c e) = refl
+settled-form Message'.GoIntoBootMode = refl
+settled-form Message'.LockMemory = refl
+settled-form Message'.LockStatusRequest = refl
+settled-form (Message'.LockStatus v) = refl
+settled-form (Message'.PortInformationRequest p i) = refl
+settled-form (Message'.ModeInformationRequest p m i) = refl
+settled-form (Message'.InputFormatSetup p m d n) = refl
+settled-form (Message'.PortModes p c n i o) = refl
+settled-form (Message'.PortCombinations p c) = refl
+settled-form (Message'.ModeText p m i) = refl
+settled-form (Message'.ModeRange p m i l h) = refl
+settled-form (Message'.ModeMapping p m v) = refl
+settled-form (Message'.ModeBias p m v) = refl
+settled-form (Message'.ModeCapabilities p m v) = refl
+settled-form (Message'.ValueFormat p m n k f d) = refl
+settled-form (Message'.PortValue p) = refl
+settled-form (Message'.InputFormat p m d n) = refl
+settled-form (Message'.VirtualDisconnect p) = refl
+settled-form (Message'.VirtualConnect a b) = refl
+
+kept : (b : Bool) (e : ℕ) → natural (naturalAt (cond b (natural e) (natural 0) ∷ []) 0) ≡ cond b (natural e) (natural 0)
+kept true e = refl
+kept false e = refl
+
+settled-values : (m : Message) → valuesOf (settled m) ≡ settledValues (layout (formOf m)) (valuesOf m)
+unfolding layout
+settled-values (Message'.PropertyCommand p o) = refl
+settled-values (Message'.PropertyText p o) = refl
+settled-values (Message'.PropertyByte p o v) = refl
+settled-values (Message'.PropertyRssi o v) = refl
+settled-values (Message'.PropertyVersion p o v) = refl
+settled-values (Message'.PropertyProtocol o v) = refl
+settled-values (Message'.PropertyAddress p o v) = refl
+settled-values (Message'.HubAction a) = refl
+settled-values (Message'.AlertCommand a o) = refl
+settled-values (Message'.AlertUpdate a v) = refl
+settled-values (Message'.Detached p) = refl
+settled-values (Message'.Attached p d h s) = refl
+settled-values (Message'.AttachedVirtual p d a b) = refl
+settled-values (Message'.GenericError c e) = refl
+settled-values Message'.GoIntoBootMode = refl
+settled-values Message'.LockMemory = refl
+settled-values Message'.LockStatusRequest = refl
+settled-values (Message'.LockStatus v) = refl
+settled-values (Message'.PortInformationRequest p i) = refl
+settled-values (Message'.ModeInformationRequest p m i) = refl
+settled-values (Message'.InputFormatSetup p m d n) = refl
+settled-values (Message'.PortModes p c n i o) = refl
+settled-values (Message'.PortCombinations p c) =
+    rw (
+      kept (ltb 0 (c .count)) (c .entry0),
+      kept (ltb 1 (c .count)) (c .entry1),
+      kept (ltb 2 (c .count)) (c .entry2),
+      kept (ltb 3 (c .count)) (c .entry3),
+      kept (ltb 4 (c .count)) (c .entry4),
+      kept (ltb 5 (c .count)) (c .entry5),
+      kept (ltb 6 (c .count)) (c .entry6),
+      kept (ltb 7 (c .count)) (c .entry7),
+    )
+settled-values (Message'.ModeText p m i) = refl
+settled-values (Message'.ModeRange p m i l h) = refl
+settled-values (Message'.ModeMapping p m v) = refl
+settled-values (Message'.ModeBias p m v) = refl
+settled-values (Message'.ModeCapabilities p m v) = refl
+settled-values (Message'.ValueFormat p m n k f d) = refl
+settled-values (Message'.PortValue p) = refl
+settled-values (Message'.InputFormat p m d n) = refl
+settled-values (Message'.VirtualDisconnect p) = refl
+settled-values (Message'.VirtualConnect a b) = refl
+
+pub read-then-written : ReadThenWritten
+unfolding encode
+read-then-written way s b m e = values-written way s b (formOf m) (valuesOf m) e
+
+pub written-then-read : WrittenThenRead
+unfolding encode
+written-then-read way m opens s e =
+    let b = values-read way (formOf m) (valuesOf m) opens s (shaped m) e in
+    (b .fields ∙ sym (rw (settled-form m, settled-values m)), b .open-is)
+
+pub refused-only : RefusedOnly
+refused-only way m opens number place e s b d o =
+    let written : encode way m opens ≡ encoded s = ap (encode way m) (sym o) ∙ read-then-written way s b m d in
+    let z : _≡_ {A = ℕ} 0 1 = cc in absurd (omega arith)

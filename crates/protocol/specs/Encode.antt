@@ -1,0 +1,305 @@
+-- Writing one message, over the layouts that reading uses: refusals 5, 6 and 7 in the order of document 01, or the bytes.
+-- Refusal 8 is the function's own, by the length of its output.
+use Prim.Native.Nat.{ℕ, zero, suc, _+_, _*_, _-_, _/_, _%_, _^_}
+use mathlib.Core.Bool.{Bool, true, false, cond, _&&_}
+use mathlib.Core.List.{List, [], _∷_, _++_, reverse}
+use mathlib.Core.Option.{Option, none, some}
+use lib.Dec.{eqb, ltb, leb}
+use lib.IntN.{ℤ, pos, negsuc}
+use lib.Ieee.{Float, binary32, toBits}
+use lib.Ieee as Ieee
+use lib.ListN.{length, take, drop, replicate}
+use Rattle.protocol.specs.Number.{isFinite}
+use Rattle.protocol.specs.Rule.{Rule, any, between}
+use Rattle.protocol.specs.Field.{Field, number, highFirst, signed, float, fixed, Value, natural, integer, real, width, widths}
+use Rattle.protocol.specs.Form
+use Rattle.protocol.specs.Form.{Form, Rest, nothing, openRun, words, Layout, layout, fits}
+use Rattle.protocol.specs.Types.{Selection, always, select, MessageType, types, typeOf}
+use Rattle.protocol.specs.Decode.{header}
+use Rattle.protocol.specs.Answer.{formOf, valuesOf, naturalAt}
+use Rattle.protocol.specs.declared.Way.{Way}
+use Rattle.protocol.specs.declared.Message.{Message}
+
+-- a refusal's number and place, or the message's bytes
+pub data Encoded : Type 0 where
+  refused : ℕ → ℕ → Encoded
+  encoded : List ℕ → Encoded
+
+-- so many bytes of a number, least significant first
+unfoldable pub lowFirst : ℕ → ℕ → List ℕ
+lowFirst zero n = []
+lowFirst (suc w) n = n % 256 ∷ lowFirst w (n / 256)
+
+-- the same, most significant first
+abbrev pub highBytes : ℕ → ℕ → List ℕ
+highBytes w n = reverse (lowFirst w n)
+
+-- two's complement at `width` bytes
+abbrev pub ofInteger : ℕ → ℤ → ℕ
+ofInteger width (pos n) = n
+ofInteger width (negsuc n) = 2 ^ (8 * width) - suc n
+
+-- whether a number is one of `width` bytes in two's complement
+abbrev pub inRange : ℕ → ℤ → Bool
+inRange width (pos n) = ltb n (2 ^ (8 * width - 1))
+inRange width (negsuc n) = ltb n (2 ^ (8 * width - 1))
+
+-- whether a field may hold a value: it is of the field's kind, fits its width and is in its list
+abbrev pub holds : Field → Value → Bool
+holds (number w rule) (natural n) = ltb n (256 ^ w) && rule n
+holds (number w rule) (integer z) = false
+holds (number w rule) (real x) = false
+holds (highFirst w) (natural n) = ltb n (256 ^ w)
+holds (highFirst w) (integer z) = false
+holds (highFirst w) (real x) = false
+holds (signed w) (natural n) = false
+holds (signed w) (integer z) = inRange w z
+holds (signed w) (real x) = false
+holds float (natural n) = false
+holds float (integer z) = false
+holds float (real x) = isFinite x && Ieee.fits binary32 x
+holds (fixed bytes) v = false
+
+-- the bytes of a field that holds a value
+abbrev pub fieldBytes : Field → Value → List ℕ
+fieldBytes (number w rule) (natural n) = lowFirst w n
+fieldBytes (number w rule) (integer z) = []
+fieldBytes (number w rule) (real x) = []
+fieldBytes (highFirst w) (natural n) = highBytes w n
+fieldBytes (highFirst w) (integer z) = []
+fieldBytes (highFirst w) (real x) = []
+fieldBytes (signed w) (natural n) = []
+fieldBytes (signed w) (integer z) = lowFirst w (ofInteger w z)
+fieldBytes (signed w) (real x) = []
+fieldBytes float (natural n) = []
+fieldBytes float (integer z) = []
+fieldBytes float (real x) = lowFirst 4 (toBits binary32 x)
+fieldBytes (fixed bytes) v = bytes
+
+-- the next field of a message: its bytes and the values left, or no value that it may hold
+pub data Step : Type 0 where
+  bad : Step
+  good : List ℕ → List Value → Step
+
+abbrev pub taken : Field → List Value → Step
+taken f [] = bad
+taken f (v ∷ vs) = cond (holds f v) (good (fieldBytes f v) vs) bad
+
+abbrev pub stepField : Field → List Value → Step
+stepField (number w rule) vs = taken (number w rule) vs
+stepField (highFirst w) vs = taken (highFirst w) vs
+stepField (signed w) vs = taken (signed w) vs
+stepField float vs = taken float vs
+stepField (fixed bytes) vs = good bytes vs
+
+-- fields written: their bytes and the values left, or the place of the first that is outside its list
+pub data Written : Type 0 where
+  outside : ℕ → Written
+  wrote : List ℕ → List Value → Written
+
+abbrev pub before : List ℕ → Written → Written
+before bs (outside at) = outside at
+before bs (wrote cs vs) = wrote (bs ++ cs) vs
+
+abbrev pub writeFields : ℕ → List Field → List Value → Written
+writeFields at [] vs = wrote [] vs
+writeFields at (f ∷ fs) vs = elim (stepField f vs) [ bad ↦ outside at | good bs ws ↦ before bs (writeFields (at + width f) fs ws) ]
+
+-- whether what follows the fields is right: open bytes within their range, none where there are none; of words a count from one to the most
+abbrev pub restFits : Rest → List Value → List ℕ → Bool
+restFits nothing vs opens = eqb (length opens) 0
+restFits (openRun least most) vs opens = between least most (length opens)
+restFits (words most) vs opens = between 1 most (naturalAt vs 0) && eqb (length opens) 0
+
+-- what follows the fields, from a place on: of words as many as the first value says; those past the count are not among the fields
+abbrev pub writeRest : ℕ → Rest → List Value → List ℕ → Written
+writeRest at nothing vs opens = wrote [] vs
+writeRest at (openRun least most) vs opens = wrote opens vs
+writeRest at (words most) vs opens = writeFields at (replicate (naturalAt vs 0) (number 2 any)) (drop 1 vs)
+
+abbrev pub thenRest : ℕ → Rest → List ℕ → Written → Written
+thenRest at rest opens (outside place) = outside place
+thenRest at rest opens (wrote bs vs) = before bs (writeRest at rest vs opens)
+
+-- the bytes of a message: its length, the hub id 0, its type, its fields and what follows them
+abbrev pub framed : ℕ → List ℕ → List ℕ
+framed code body = (header + length body) ∷ 0 ∷ code ∷ body
+
+-- the type byte of a form
+abbrev pub code : Form → ℕ
+code Form.propertyCommand = 0x01
+code (Form.propertyText p) = 0x01
+code (Form.propertyByte p) = 0x01
+code Form.propertyRssi = 0x01
+code Form.propertyVersion = 0x01
+code Form.propertyProtocol = 0x01
+code Form.propertyAddress = 0x01
+code Form.hubAction = 0x02
+code Form.alertCommand = 0x03
+code Form.alertUpdate = 0x03
+code Form.detached = 0x04
+code Form.attached = 0x04
+code Form.attachedVirtual = 0x04
+code Form.genericError = 0x05
+code Form.goIntoBootMode = 0x10
+code Form.lockMemory = 0x11
+code Form.lockStatusRequest = 0x12
+code Form.lockStatus = 0x13
+code Form.portInformationRequest = 0x21
+code Form.modeInformationRequest = 0x22
+code Form.inputFormatSetup = 0x41
+code Form.portModes = 0x43
+code Form.portCombinations = 0x43
+code (Form.modeText i) = 0x44
+code Form.modeRange = 0x44
+code Form.modeMapping = 0x44
+code Form.modeBias = 0x44
+code Form.modeCapabilities = 0x44
+code Form.valueFormat = 0x44
+code Form.portValue = 0x45
+code Form.inputFormat = 0x47
+code Form.virtualDisconnect = 0x61
+code Form.virtualConnect = 0x61
+
+abbrev pub closed : Form → Written → Encoded
+closed f (outside at) = refused 7 at
+closed f (wrote bs vs) = encoded (framed (code f) bs)
+
+-- the values after those of the fields
+abbrev pub afterField : Field → List Value → List Value
+afterField (number w rule) vs = drop 1 vs
+afterField (highFirst w) vs = drop 1 vs
+afterField (signed w) vs = drop 1 vs
+afterField float vs = drop 1 vs
+afterField (fixed bytes) vs = vs
+
+abbrev pub afterFields : List Field → List Value → List Value
+afterFields [] vs = vs
+afterFields (f ∷ fs) vs = afterFields fs (afterField f vs)
+
+-- and those of the fields
+abbrev pub frontValue : Field → List Value → List Value
+frontValue (number w rule) vs = take 1 vs
+frontValue (highFirst w) vs = take 1 vs
+frontValue (signed w) vs = take 1 vs
+frontValue float vs = take 1 vs
+frontValue (fixed bytes) vs = []
+
+abbrev pub frontValues : List Field → List Value → List Value
+frontValues [] vs = []
+frontValues (f ∷ fs) vs = frontValue f vs ++ frontValues fs (afterField f vs)
+
+-- a message of a form that its selectors have chosen: 6, then its fields left to right
+unfoldable pub encodeForm : Form → List Value → List ℕ → Encoded
+encodeForm f vs opens =
+    let l = layout f in
+    cond (restFits (l .rest) (afterFields (l .fields) vs) opens)
+    (closed f (thenRest (header + widths (l .fields)) (l .rest) opens (writeFields header (l .fields) vs)))
+    (refused 6 0)
+
+-- the forms numbered from 1, and the selector that one has as its argument
+abbrev pub formNumber : Form → ℕ
+formNumber Form.propertyCommand = 1
+formNumber (Form.propertyText p) = 2
+formNumber (Form.propertyByte p) = 3
+formNumber Form.propertyRssi = 4
+formNumber Form.propertyVersion = 5
+formNumber Form.propertyProtocol = 6
+formNumber Form.propertyAddress = 7
+formNumber Form.hubAction = 8
+formNumber Form.alertCommand = 9
+formNumber Form.alertUpdate = 10
+formNumber Form.detached = 11
+formNumber Form.attached = 12
+formNumber Form.attachedVirtual = 13
+formNumber Form.genericError = 14
+formNumber Form.goIntoBootMode = 15
+formNumber Form.lockMemory = 16
+formNumber Form.lockStatusRequest = 17
+formNumber Form.lockStatus = 18
+formNumber Form.portInformationRequest = 19
+formNumber Form.modeInformationRequest = 20
+formNumber Form.inputFormatSetup = 21
+formNumber Form.portModes = 22
+formNumber Form.portCombinations = 23
+formNumber (Form.modeText i) = 24
+formNumber Form.modeRange = 25
+formNumber Form.modeMapping = 26
+formNumber Form.modeBias = 27
+formNumber Form.modeCapabilities = 28
+formNumber Form.valueFormat = 29
+formNumber Form.portValue = 30
+formNumber Form.inputFormat = 31
+formNumber Form.virtualDisconnect = 32
+formNumber Form.virtualConnect = 33
+
+abbrev pub argument : Form → ℕ
+argument Form.propertyCommand = 0
+argument (Form.propertyText p) = p
+argument (Form.propertyByte p) = p
+argument Form.propertyRssi = 0
+argument Form.propertyVersion = 0
+argument Form.propertyProtocol = 0
+argument Form.propertyAddress = 0
+argument Form.hubAction = 0
+argument Form.alertCommand = 0
+argument Form.alertUpdate = 0
+argument Form.detached = 0
+argument Form.attached = 0
+argument Form.attachedVirtual = 0
+argument Form.genericError = 0
+argument Form.goIntoBootMode = 0
+argument Form.lockMemory = 0
+argument Form.lockStatusRequest = 0
+argument Form.lockStatus = 0
+argument Form.portInformationRequest = 0
+argument Form.modeInformationRequest = 0
+argument Form.inputFormatSetup = 0
+argument Form.portModes = 0
+argument Form.portCombinations = 0
+argument (Form.modeText i) = i
+argument Form.modeRange = 0
+argument Form.modeMapping = 0
+argument Form.modeBias = 0
+argument Form.modeCapabilities = 0
+argument Form.valueFormat = 0
+argument Form.portValue = 0
+argument Form.inputFormat = 0
+argument Form.virtualDisconnect = 0
+argument Form.virtualConnect = 0
+
+abbrev pub sameForm : Form → Form → Bool
+sameForm f g = eqb (formNumber f) (formNumber g) && eqb (argument f) (argument g)
+
+-- the selectors from left to right, which stand among the values by their offsets; where they lead to another form than
+-- the message's, the last of them, at a place, is outside its list
+abbrev pub encodeSelection : Selection → Form → ℕ → List Value → List ℕ → Encoded
+encodeSelection (always g) f last vs opens = cond (sameForm g f) (encodeForm f vs opens) (refused 7 last)
+encodeSelection (select offset rule next) f last vs opens =
+    let v = naturalAt vs offset in
+    cond (rule v) (encodeSelection (next v) f last vs opens) (refused 7 (header + offset))
+
+abbrev pub encodeTyped : Option MessageType → Form → List Value → List ℕ → Encoded
+encodeTyped none f vs opens = refused 5 2
+encodeTyped (some t) f vs opens = encodeSelection (t .selection) f (header + t .selectors - 1) vs opens
+
+-- a form with its values and its open bytes
+unfoldable pub encodeValues : Way → Form → List Value → List ℕ → Encoded
+encodeValues way f vs opens = encodeTyped (typeOf (code f) (types way)) f vs opens
+
+unfoldable pub encode : Way → Message → List ℕ → Encoded
+encode way m opens = encodeValues way (formOf m) (valuesOf m) opens
+
+-- the message as reading gives it back: the entries of a 43 past its count are 0
+abbrev pub keep : ℕ → ℕ → List Value → List Value
+keep count i [] = []
+keep count i (v ∷ vs) = cond (ltb i count) v (natural 0) ∷ keep count (suc i) vs
+
+abbrev pub settleRest : Rest → List Value → List Value
+settleRest nothing vs = vs
+settleRest (openRun least most) vs = vs
+settleRest (words most) [] = []
+settleRest (words most) (v ∷ vs) = v ∷ keep (naturalAt (v ∷ vs) 0) 0 vs
+
+abbrev pub settledValues : Layout → List Value → List Value
+settledValues l vs = frontValues (l .fields) vs ++ settleRest (l .rest) (afterFields (l .fields) vs)
