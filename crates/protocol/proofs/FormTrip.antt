@@ -14,11 +14,11 @@ use Rattle.protocol.specs.Number.{Bytes}
 use Rattle.protocol.specs.Field.{Field, Value, natural, integer, real, width, widths, Fields, values, andThen, readFields}
 use Rattle.protocol.specs.Field as Field'
 use Rattle.protocol.specs.Form
-use Rattle.protocol.specs.Form.{Form, Rest, nothing, openRun, words, layout, fits, wordsFrom, upFrom, readRest, openBytes}
+use Rattle.protocol.specs.Form.{Form, Rest, nothing, openRun, words, layout, fits, wordsFrom, upFrom, readRest, openBytes, code}
 use Rattle.protocol.specs.Decode.{Answer, accepted, wrongSize, header, valuesOrRefusal, decodeForm}
 use Rattle.protocol.specs.Decode as Decode'
 use Rattle.protocol.specs.Answer.{naturalAt}
-use Rattle.protocol.specs.Encode.{Encoded, encoded, Written, wrote, before, writeFields, restFits, writeRest, thenRest, framed, code, closed, afterFields, frontValues, encodeForm, keep, settleRest, settledValues}
+use Rattle.protocol.specs.Encode.{Encoded, encoded, Written, wrote, before, writeFields, restFits, writeRest, thenRest, framed, closed, afterFields, frontValues, encodeForm, keep, settleRest, settledValues}
 use Rattle.protocol.specs.Encode as Encode'
 use Rattle.protocol.proofs.Tests.{which, and-left, and-right}
 use Rattle.protocol.proofs.Bytes.{part}

@@ -15,13 +15,13 @@ use Rattle.protocol.specs.Number.{Bytes}
 use Rattle.protocol.specs.Field.{Field, Value, natural, Fields, values, widths, andThen, readFields}
 use Rattle.protocol.specs.Field as Field'
 use Rattle.protocol.specs.Form
-use Rattle.protocol.specs.Form.{Form, layout, longestModeText, fits, readRest, openBytes}
+use Rattle.protocol.specs.Form.{Form, layout, longestModeText, fits, readRest, openBytes, code, formNumber, argument, sameForm}
 use Rattle.protocol.specs.Properties.{longest}
 use Rattle.protocol.specs.Types.{Selection, always, select, MessageType, types, typeOf}
 use Rattle.protocol.specs.Decode.{Answer, accepted, wrongSize, header, valuesOrRefusal, decodeForm, decodeSelection, decodeType, decodeTyped, decodeWay, decode, openOf, openPart}
 use Rattle.protocol.specs.Decode as Decode'
 use Rattle.protocol.specs.Answer.{naturalAt, formOf, valuesOf}
-use Rattle.protocol.specs.Encode.{Encoded, encoded, framed, code, formNumber, argument, sameForm, afterFields, encodeForm, encodeSelection, encodeTyped, encodeValues, encode, settledValues}
+use Rattle.protocol.specs.Encode.{Encoded, encoded, framed, afterFields, encodeForm, encodeSelection, encodeTyped, encodeValues, encode, settledValues}
 use Rattle.protocol.specs.RoundTrip.{settled, ReadThenWritten, WrittenThenRead, RefusedOnly}
 use Rattle.protocol.specs.Encode as Encode'
 use Rattle.protocol.specs.declared.Combinations.{Combinations}

@@ -15,11 +15,11 @@ use Rattle.protocol.specs.Rule.{Rule, oneOf}
 use Rattle.protocol.specs.Properties.{carries}
 use Rattle.protocol.specs.Field.{Field, number, highFirst, signed, float, fixed, Value, natural, integer, real, width, widths, Fields, values, readField, readFields}
 use Rattle.protocol.specs.Form
-use Rattle.protocol.specs.Form.{Form, Layout, layout}
+use Rattle.protocol.specs.Form.{Form, Layout, layout, code}
 use Rattle.protocol.specs.Types.{Selection, always, select, MessageType, Row, payload, types, typeOf, hubProperties, hubActions, hubAlerts, hubAttachedIo, portInformation, portModeInformation, virtualPortSetup}
 use Rattle.protocol.specs.Decode.{header}
 use Rattle.protocol.specs.Answer.{naturalAt}
-use Rattle.protocol.specs.Encode.{lowFirst, holds, fieldBytes, Written, wrote, writeFields, code}
+use Rattle.protocol.specs.Encode.{lowFirst, holds, fieldBytes, Written, wrote, writeFields}
 use Rattle.protocol.specs.declared.Way.{Way}
 use Rattle.protocol.specs.declared.Way.the-variants.{Down, Up}
 use Rattle.protocol.proofs.Tests.{which, and-left}

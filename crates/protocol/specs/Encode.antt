@@ -12,8 +12,7 @@ use lib.ListN.{length, take, drop, replicate}
 use Rattle.protocol.specs.Number.{isFinite}
 use Rattle.protocol.specs.Rule.{Rule, any, between}
 use Rattle.protocol.specs.Field.{Field, number, highFirst, signed, float, fixed, Value, natural, integer, real, width, widths}
-use Rattle.protocol.specs.Form
-use Rattle.protocol.specs.Form.{Form, Rest, nothing, openRun, words, Layout, layout, fits}
+use Rattle.protocol.specs.Form.{Form, code, sameForm, Rest, nothing, openRun, words, Layout, layout}
 use Rattle.protocol.specs.Types.{Selection, always, select, MessageType, types, typeOf}
 use Rattle.protocol.specs.Decode.{header}
 use Rattle.protocol.specs.Answer.{formOf, valuesOf, naturalAt}
@@ -125,42 +124,6 @@ thenRest at rest opens (wrote bs vs) = before bs (writeRest at rest vs opens)
 abbrev pub framed : ℕ → List ℕ → List ℕ
 framed code body = (header + length body) ∷ 0 ∷ code ∷ body
 
--- the type byte of a form
-abbrev pub code : Form → ℕ
-code Form.propertyCommand = 0x01
-code (Form.propertyText p) = 0x01
-code (Form.propertyByte p) = 0x01
-code Form.propertyRssi = 0x01
-code Form.propertyVersion = 0x01
-code Form.propertyProtocol = 0x01
-code Form.propertyAddress = 0x01
-code Form.hubAction = 0x02
-code Form.alertCommand = 0x03
-code Form.alertUpdate = 0x03
-code Form.detached = 0x04
-code Form.attached = 0x04
-code Form.attachedVirtual = 0x04
-code Form.genericError = 0x05
-code Form.goIntoBootMode = 0x10
-code Form.lockMemory = 0x11
-code Form.lockStatusRequest = 0x12
-code Form.lockStatus = 0x13
-code Form.portInformationRequest = 0x21
-code Form.modeInformationRequest = 0x22
-code Form.inputFormatSetup = 0x41
-code Form.portModes = 0x43
-code Form.portCombinations = 0x43
-code (Form.modeText i) = 0x44
-code Form.modeRange = 0x44
-code Form.modeMapping = 0x44
-code Form.modeBias = 0x44
-code Form.modeCapabilities = 0x44
-code Form.valueFormat = 0x44
-code Form.portValue = 0x45
-code Form.inputFormat = 0x47
-code Form.virtualDisconnect = 0x61
-code Form.virtualConnect = 0x61
-
 abbrev pub closed : Form → Written → Encoded
 closed f (outside at) = refused 7 at
 closed f (wrote bs vs) = encoded (framed (code f) bs)
@@ -196,80 +159,6 @@ encodeForm f vs opens =
     cond (restFits (l .rest) (afterFields (l .fields) vs) opens)
     (closed f (thenRest (header + widths (l .fields)) (l .rest) opens (writeFields header (l .fields) vs)))
     (refused 6 0)
-
--- the forms numbered from 1, and the selector that one has as its argument
-abbrev pub formNumber : Form → ℕ
-formNumber Form.propertyCommand = 1
-formNumber (Form.propertyText p) = 2
-formNumber (Form.propertyByte p) = 3
-formNumber Form.propertyRssi = 4
-formNumber Form.propertyVersion = 5
-formNumber Form.propertyProtocol = 6
-formNumber Form.propertyAddress = 7
-formNumber Form.hubAction = 8
-formNumber Form.alertCommand = 9
-formNumber Form.alertUpdate = 10
-formNumber Form.detached = 11
-formNumber Form.attached = 12
-formNumber Form.attachedVirtual = 13
-formNumber Form.genericError = 14
-formNumber Form.goIntoBootMode = 15
-formNumber Form.lockMemory = 16
-formNumber Form.lockStatusRequest = 17
-formNumber Form.lockStatus = 18
-formNumber Form.portInformationRequest = 19
-formNumber Form.modeInformationRequest = 20
-formNumber Form.inputFormatSetup = 21
-formNumber Form.portModes = 22
-formNumber Form.portCombinations = 23
-formNumber (Form.modeText i) = 24
-formNumber Form.modeRange = 25
-formNumber Form.modeMapping = 26
-formNumber Form.modeBias = 27
-formNumber Form.modeCapabilities = 28
-formNumber Form.valueFormat = 29
-formNumber Form.portValue = 30
-formNumber Form.inputFormat = 31
-formNumber Form.virtualDisconnect = 32
-formNumber Form.virtualConnect = 33
-
-abbrev pub argument : Form → ℕ
-argument Form.propertyCommand = 0
-argument (Form.propertyText p) = p
-argument (Form.propertyByte p) = p
-argument Form.propertyRssi = 0
-argument Form.propertyVersion = 0
-argument Form.propertyProtocol = 0
-argument Form.propertyAddress = 0
-argument Form.hubAction = 0
-argument Form.alertCommand = 0
-argument Form.alertUpdate = 0
-argument Form.detached = 0
-argument Form.attached = 0
-argument Form.attachedVirtual = 0
-argument Form.genericError = 0
-argument Form.goIntoBootMode = 0
-argument Form.lockMemory = 0
-argument Form.lockStatusRequest = 0
-argument Form.lockStatus = 0
-argument Form.portInformationRequest = 0
-argument Form.modeInformationRequest = 0
-argument Form.inputFormatSetup = 0
-argument Form.portModes = 0
-argument Form.portCombinations = 0
-argument (Form.modeText i) = i
-argument Form.modeRange = 0
-argument Form.modeMapping = 0
-argument Form.modeBias = 0
-argument Form.modeCapabilities = 0
-argument Form.valueFormat = 0
-argument Form.portValue = 0
-argument Form.inputFormat = 0
-argument Form.virtualDisconnect = 0
-argument Form.virtualConnect = 0
-
-abbrev pub sameForm : Form → Form → Bool
-sameForm f g = eqb (formNumber f) (formNumber g) && eqb (argument f) (argument g)
 
 -- the selectors from left to right, which stand among the values by their offsets; where they lead to another form than
 -- the message's, the last of them, at a place, is outside its list

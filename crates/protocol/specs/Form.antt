@@ -45,6 +45,116 @@ pub data Form : Type 0 where
   virtualDisconnect : Form
   virtualConnect : Form
 
+-- the type byte of a form
+abbrev pub code : Form → ℕ
+code propertyCommand = 0x01
+code (propertyText p) = 0x01
+code (propertyByte p) = 0x01
+code propertyRssi = 0x01
+code propertyVersion = 0x01
+code propertyProtocol = 0x01
+code propertyAddress = 0x01
+code hubAction = 0x02
+code alertCommand = 0x03
+code alertUpdate = 0x03
+code detached = 0x04
+code attached = 0x04
+code attachedVirtual = 0x04
+code genericError = 0x05
+code goIntoBootMode = 0x10
+code lockMemory = 0x11
+code lockStatusRequest = 0x12
+code lockStatus = 0x13
+code portInformationRequest = 0x21
+code modeInformationRequest = 0x22
+code inputFormatSetup = 0x41
+code portModes = 0x43
+code portCombinations = 0x43
+code (modeText i) = 0x44
+code modeRange = 0x44
+code modeMapping = 0x44
+code modeBias = 0x44
+code modeCapabilities = 0x44
+code valueFormat = 0x44
+code portValue = 0x45
+code inputFormat = 0x47
+code virtualDisconnect = 0x61
+code virtualConnect = 0x61
+
+-- the forms numbered from 1, and the selector that one has as its argument
+abbrev pub formNumber : Form → ℕ
+formNumber propertyCommand = 1
+formNumber (propertyText p) = 2
+formNumber (propertyByte p) = 3
+formNumber propertyRssi = 4
+formNumber propertyVersion = 5
+formNumber propertyProtocol = 6
+formNumber propertyAddress = 7
+formNumber hubAction = 8
+formNumber alertCommand = 9
+formNumber alertUpdate = 10
+formNumber detached = 11
+formNumber attached = 12
+formNumber attachedVirtual = 13
+formNumber genericError = 14
+formNumber goIntoBootMode = 15
+formNumber lockMemory = 16
+formNumber lockStatusRequest = 17
+formNumber lockStatus = 18
+formNumber portInformationRequest = 19
+formNumber modeInformationRequest = 20
+formNumber inputFormatSetup = 21
+formNumber portModes = 22
+formNumber portCombinations = 23
+formNumber (modeText i) = 24
+formNumber modeRange = 25
+formNumber modeMapping = 26
+formNumber modeBias = 27
+formNumber modeCapabilities = 28
+formNumber valueFormat = 29
+formNumber portValue = 30
+formNumber inputFormat = 31
+formNumber virtualDisconnect = 32
+formNumber virtualConnect = 33
+
+abbrev pub argument : Form → ℕ
+argument propertyCommand = 0
+argument (propertyText p) = p
+argument (propertyByte p) = p
+argument propertyRssi = 0
+argument propertyVersion = 0
+argument propertyProtocol = 0
+argument propertyAddress = 0
+argument hubAction = 0
+argument alertCommand = 0
+argument alertUpdate = 0
+argument detached = 0
+argument attached = 0
+argument attachedVirtual = 0
+argument genericError = 0
+argument goIntoBootMode = 0
+argument lockMemory = 0
+argument lockStatusRequest = 0
+argument lockStatus = 0
+argument portInformationRequest = 0
+argument modeInformationRequest = 0
+argument inputFormatSetup = 0
+argument portModes = 0
+argument portCombinations = 0
+argument (modeText i) = i
+argument modeRange = 0
+argument modeMapping = 0
+argument modeBias = 0
+argument modeCapabilities = 0
+argument valueFormat = 0
+argument portValue = 0
+argument inputFormat = 0
+argument virtualDisconnect = 0
+argument virtualConnect = 0
+
+abbrev pub sameForm : Form → Form → Bool
+sameForm f g = eqb (formNumber f) (formNumber g) && eqb (argument f) (argument g)
+
 -- what follows the fields
 pub data Rest : Type 0 where
   nothing : Rest
