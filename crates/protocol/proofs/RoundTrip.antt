@@ -348,127 +348,62 @@ abbrev entriesOf : Combinations → List Value
 entriesOf c =
     natural (c .entry0) ∷ natural (c .entry1) ∷ natural (c .entry2) ∷ natural (c .entry3) ∷ natural (c .entry4) ∷ natural (c .entry5) ∷ natural (c .entry6) ∷ natural (c .entry7) ∷ []
 
-shaped : (m : Message) → Shaped (layout (formOf m) .rest) (afterFields (layout (formOf m) .fields) (valuesOf m))
-unfolding layout
-shaped (Message'.PropertyCommand p o) = refl
-shaped (Message'.PropertyText p o) = refl
-shaped (Message'.PropertyByte p o v) = refl
-shaped (Message'.PropertyRssi o v) = refl
-shaped (Message'.PropertyVersion p o v) = refl
-shaped (Message'.PropertyProtocol o v) = refl
-shaped (Message'.PropertyAddress p o v) = refl
-shaped (Message'.HubAction a) = refl
-shaped (Message'.AlertCommand a o) = refl
-shaped (Message'.AlertUpdate a v) = refl
-shaped (Message'.Detached p) = refl
-shaped (Message'.Attached p d h s) = refl
-shaped (Message'.AttachedVirtual p d a b) = refl
-shaped (Message'.GenericError c e) = refl
-shaped Message'.GoIntoBootMode = refl
-shaped Message'.LockMemory = refl
-shaped Message'.LockStatusRequest = refl
-shaped (Message'.LockStatus v) = refl
-shaped (Message'.PortInformationRequest p i) = refl
-shaped (Message'.ModeInformationRequest p m i) = refl
-shaped (Message'.InputFormatSetup p m d n) = refl
-shaped (Message'.PortModes p c n i o) = refl
-shaped (Message'.PortCombinations p c) = (c .count, entriesOf c, refl, refl, tt)
-shaped (Message'.ModeText p m i) = refl
-shaped (Message'.ModeRange p m i l h) = refl
-shaped (Message'.ModeMapping p m v) = refl
-shaped (Message'.ModeBias p m v) = refl
-shaped (Message'.ModeCapabilities p m v) = refl
-shaped (Message'.ValueFormat p m n k f d) = refl
-shaped (Message'.PortValue p) = refl
-shaped (Message'.InputFormat p m d n) = refl
-shaped (Message'.VirtualDisconnect p) = refl
-shaped (Message'.VirtualConnect a b) = refl
-
-settled-form : (m : Message) → formOf (settled m) ≡ formOf m
-unfolding layout
-settled-form (Message'.PropertyCommand p o) = refl
-settled-form (Message'.PropertyText p o) = refl
-settled-form (Message'.PropertyByte p o v) = refl
-settled-form (Message'.PropertyRssi o v) = refl
-settled-form (Message'.PropertyVersion p o v) = refl
-settled-form (Message'.PropertyProtocol o v) = refl
-settled-form (Message'.PropertyAddress p o v) = refl
-settled-form (Message'.HubAction a) = refl
-settled-form (Message'.AlertCommand a o) = refl
-settled-form (Message'.AlertUpdate a v) = refl
-settled-form (Message'.Detached p) = refl
-settled-form (Message'.Attached p d h s) = refl
-settled-form (Message'.AttachedVirtual p d a b) = refl
-settled-form (Message'.GenericError c e) = refl
-settled-form Message'.GoIntoBootMode = refl
-settled-form Message'.LockMemory = refl
-settled-form Message'.LockStatusRequest = refl
-settled-form (Message'.LockStatus v) = refl
-settled-form (Message'.PortInformationRequest p i) = refl
-settled-form (Message'.ModeInformationRequest p m i) = refl
-settled-form (Message'.InputFormatSetup p m d n) = refl
-settled-form (Message'.PortModes p c n i o) = refl
-settled-form (Message'.PortCombinations p c) = refl
-settled-form (Message'.ModeText p m i) = refl
-settled-form (Message'.ModeRange p m i l h) = refl
-settled-form (Message'.ModeMapping p m v) = refl
-settled-form (Message'.ModeBias p m v) = refl
-settled-form (Message'.ModeCapabilities p m v) = refl
-settled-form (Message'.ValueFormat p m n k f d) = refl
-settled-form (Message'.PortValue p) = refl
-settled-form (Message'.InputFormat p m d n) = refl
-settled-form (Message'.VirtualDisconnect p) = refl
-settled-form (Message'.VirtualConnect a b) = refl
-
 kept : (b : Bool) (e : ℕ) → natural (naturalAt (cond b (natural e) (natural 0) ∷ []) 0) ≡ cond b (natural e) (natural 0)
 kept true e = refl
 kept false e = refl
 
-settled-values : (m : Message) → valuesOf (settled m) ≡ settledValues (layout (formOf m)) (valuesOf m)
+-- a message has as many values as its form wants, and settling changes only those past a count
+settling : (m : Message)
+    → Shaped (layout (formOf m) .rest) (afterFields (layout (formOf m) .fields) (valuesOf m))
+    × (formOf (settled m) ≡ formOf m)
+    × (valuesOf (settled m) ≡ settledValues (layout (formOf m)) (valuesOf m))
 unfolding layout
-settled-values (Message'.PropertyCommand p o) = refl
-settled-values (Message'.PropertyText p o) = refl
-settled-values (Message'.PropertyByte p o v) = refl
-settled-values (Message'.PropertyRssi o v) = refl
-settled-values (Message'.PropertyVersion p o v) = refl
-settled-values (Message'.PropertyProtocol o v) = refl
-settled-values (Message'.PropertyAddress p o v) = refl
-settled-values (Message'.HubAction a) = refl
-settled-values (Message'.AlertCommand a o) = refl
-settled-values (Message'.AlertUpdate a v) = refl
-settled-values (Message'.Detached p) = refl
-settled-values (Message'.Attached p d h s) = refl
-settled-values (Message'.AttachedVirtual p d a b) = refl
-settled-values (Message'.GenericError c e) = refl
-settled-values Message'.GoIntoBootMode = refl
-settled-values Message'.LockMemory = refl
-settled-values Message'.LockStatusRequest = refl
-settled-values (Message'.LockStatus v) = refl
-settled-values (Message'.PortInformationRequest p i) = refl
-settled-values (Message'.ModeInformationRequest p m i) = refl
-settled-values (Message'.InputFormatSetup p m d n) = refl
-settled-values (Message'.PortModes p c n i o) = refl
-settled-values (Message'.PortCombinations p c) =
-    rw (
-      kept (ltb 0 (c .count)) (c .entry0),
-      kept (ltb 1 (c .count)) (c .entry1),
-      kept (ltb 2 (c .count)) (c .entry2),
-      kept (ltb 3 (c .count)) (c .entry3),
-      kept (ltb 4 (c .count)) (c .entry4),
-      kept (ltb 5 (c .count)) (c .entry5),
-      kept (ltb 6 (c .count)) (c .entry6),
-      kept (ltb 7 (c .count)) (c .entry7),
-    )
-settled-values (Message'.ModeText p m i) = refl
-settled-values (Message'.ModeRange p m i l h) = refl
-settled-values (Message'.ModeMapping p m v) = refl
-settled-values (Message'.ModeBias p m v) = refl
-settled-values (Message'.ModeCapabilities p m v) = refl
-settled-values (Message'.ValueFormat p m n k f d) = refl
-settled-values (Message'.PortValue p) = refl
-settled-values (Message'.InputFormat p m d n) = refl
-settled-values (Message'.VirtualDisconnect p) = refl
-settled-values (Message'.VirtualConnect a b) = refl
+settling (Message'.PropertyCommand p o) = (refl, refl, refl)
+settling (Message'.PropertyText p o) = (refl, refl, refl)
+settling (Message'.PropertyByte p o v) = (refl, refl, refl)
+settling (Message'.PropertyRssi o v) = (refl, refl, refl)
+settling (Message'.PropertyVersion p o v) = (refl, refl, refl)
+settling (Message'.PropertyProtocol o v) = (refl, refl, refl)
+settling (Message'.PropertyAddress p o v) = (refl, refl, refl)
+settling (Message'.HubAction a) = (refl, refl, refl)
+settling (Message'.AlertCommand a o) = (refl, refl, refl)
+settling (Message'.AlertUpdate a v) = (refl, refl, refl)
+settling (Message'.Detached p) = (refl, refl, refl)
+settling (Message'.Attached p d h s) = (refl, refl, refl)
+settling (Message'.AttachedVirtual p d a b) = (refl, refl, refl)
+settling (Message'.GenericError c e) = (refl, refl, refl)
+settling Message'.GoIntoBootMode = (refl, refl, refl)
+settling Message'.LockMemory = (refl, refl, refl)
+settling Message'.LockStatusRequest = (refl, refl, refl)
+settling (Message'.LockStatus v) = (refl, refl, refl)
+settling (Message'.PortInformationRequest p i) = (refl, refl, refl)
+settling (Message'.ModeInformationRequest p m i) = (refl, refl, refl)
+settling (Message'.InputFormatSetup p m d n) = (refl, refl, refl)
+settling (Message'.PortModes p c n i o) = (refl, refl, refl)
+settling (Message'.PortCombinations p c) = (
+  (c .count, entriesOf c, refl, refl, tt),
+  refl,
+  rw (
+    kept (ltb 0 (c .count)) (c .entry0),
+    kept (ltb 1 (c .count)) (c .entry1),
+    kept (ltb 2 (c .count)) (c .entry2),
+    kept (ltb 3 (c .count)) (c .entry3),
+    kept (ltb 4 (c .count)) (c .entry4),
+    kept (ltb 5 (c .count)) (c .entry5),
+    kept (ltb 6 (c .count)) (c .entry6),
+    kept (ltb 7 (c .count)) (c .entry7),
+  ),
+)
+settling (Message'.ModeText p m i) = (refl, refl, refl)
+settling (Message'.ModeRange p m i l h) = (refl, refl, refl)
+settling (Message'.ModeMapping p m v) = (refl, refl, refl)
+settling (Message'.ModeBias p m v) = (refl, refl, refl)
+settling (Message'.ModeCapabilities p m v) = (refl, refl, refl)
+settling (Message'.ValueFormat p m n k f d) = (refl, refl, refl)
+settling (Message'.PortValue p) = (refl, refl, refl)
+settling (Message'.InputFormat p m d n) = (refl, refl, refl)
+settling (Message'.VirtualDisconnect p) = (refl, refl, refl)
+settling (Message'.VirtualConnect a b) = (refl, refl, refl)
 
 pub read-then-written : ReadThenWritten
 unfolding encode
@@ -477,8 +412,9 @@ read-then-written way s b m e = values-written way s b (formOf m) (valuesOf m) e
 pub written-then-read : WrittenThenRead
 unfolding encode
 written-then-read way m opens s e =
-    let b = values-read way (formOf m) (valuesOf m) opens s (shaped m) e in
-    (b .fields ∙ sym (rw (settled-form m, settled-values m)), b .open-is)
+    let k = settling m in
+    let b = values-read way (formOf m) (valuesOf m) opens s (k .0) e in
+    (b .fields ∙ sym (rw (k .1, k .2)), b .open-is)
 
 pub refused-only : RefusedOnly
 refused-only way m opens number place e s b d o =
