@@ -1,6 +1,7 @@
 // Messages on the hub: 0x02, 0x03, 0x05.
 use crate::refusal::outside;
 use crate::refusal::wrong_size;
+use crate::rule::between;
 use protocol::Message;
 use protocol::Reading;
 ghost use mathlib.Core.Path.{_≡_};
@@ -30,11 +31,10 @@ pub(crate) fn hub_actions_down(s: &[u8]) -> Reading
     if s.len() < 4 {
         return wrong_size();
     }
-    if is_down_action(s[3]) {
-        hub_action(s)
-    } else {
-        outside(3)
+    if !is_down_action(s[3]) {
+        return outside(3);
     }
+    hub_action(s)
 }
 
 // 0x02 up
@@ -44,10 +44,7 @@ pub(crate) fn hub_actions_up(s: &[u8]) -> Reading
     if s.len() < 4 {
         return wrong_size();
     }
-    if s[3] < 0x30 {
-        return outside(3);
-    }
-    if 0x32 < s[3] {
+    if !between(0x30, s[3], 0x32) {
         return outside(3);
     }
     hub_action(s)
@@ -69,16 +66,10 @@ pub(crate) fn hub_alerts_down(s: &[u8]) -> Reading
     if s.len() < 5 {
         return wrong_size();
     }
-    if s[3] < 1 {
+    if !between(1, s[3], 4) {
         return outside(3);
     }
-    if 4 < s[3] {
-        return outside(3);
-    }
-    if s[4] < 1 {
-        return outside(4);
-    }
-    if 3 < s[4] {
+    if !between(1, s[4], 3) {
         return outside(4);
     }
     alert_command(s)
@@ -91,10 +82,7 @@ pub(crate) fn hub_alerts_up(s: &[u8]) -> Reading
     if s.len() < 5 {
         return wrong_size();
     }
-    if s[3] < 1 {
-        return outside(3);
-    }
-    if 4 < s[3] {
+    if !between(1, s[3], 4) {
         return outside(3);
     }
     if s[4] != 4 {
@@ -131,14 +119,14 @@ fn alert_update(s: &[u8]) -> Reading
     if s.len() != 6 {
         return wrong_size();
     }
-    if is_alert_status(s[5]) {
-        Reading::Accepted(Message::AlertUpdate {
-            alert: s[3],
-            status: s[5],
-        })
-    } else {
-        outside(5)
+    let status = s[5];
+    if !is_alert_status(status) {
+        return outside(5);
     }
+    Reading::Accepted(Message::AlertUpdate {
+        alert: s[3],
+        status,
+    })
 }
 
 // 0x05
@@ -148,14 +136,12 @@ pub(crate) fn generic_error(s: &[u8]) -> Reading
     if s.len() != 5 {
         return wrong_size();
     }
-    if s[4] < 1 {
-        return outside(4);
-    }
-    if 8 < s[4] {
+    let error = s[4];
+    if !between(1, error, 8) {
         return outside(4);
     }
     Reading::Accepted(Message::GenericError {
         command: s[3],
-        error: s[4],
+        error,
     })
 }

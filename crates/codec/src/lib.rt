@@ -7,6 +7,7 @@ mod number;
 mod port;
 mod property;
 mod refusal;
+mod rule;
 
 use crate::firmware::go_into_boot_mode;
 use crate::firmware::lock_memory;
@@ -46,11 +47,11 @@ pub fn read(message: &[u8], way: Way) -> Reading
     if message.len() == 0 {
         return refuse(1, 0);
     }
-    if 128 <= message[0] {
+    let size = message[0];
+    if 128 <= size {
         return refuse(2, 0);
     }
-    let size = message[0] as usize;
-    if size != message.len() {
+    if size as usize != message.len() {
         return refuse(3, 0);
     }
     if message.len() < 3 {

@@ -5,6 +5,7 @@ use crate::number::u16_at;
 use crate::number::u48_at;
 use crate::refusal::outside;
 use crate::refusal::wrong_size;
+use crate::rule::between;
 use protocol::Message;
 use protocol::Reading;
 ghost use mathlib.Core.Path.{_≡_};
@@ -48,12 +49,13 @@ fn mode_text(s: &[u8], most: usize) -> Reading
     if most < s.len() {
         return wrong_size();
     }
-    if 15 < s[4] {
+    let mode = s[4];
+    if 15 < mode {
         return outside(4);
     }
     Reading::Accepted(Message::ModeText {
         port: s[3],
-        mode: s[4],
+        mode,
         information: s[5],
     })
 }
@@ -64,24 +66,23 @@ fn mode_range(s: &[u8]) -> Reading
     if s.len() != 14 {
         return wrong_size();
     }
-    if 15 < s[4] {
+    let mode = s[4];
+    if 15 < mode {
         return outside(4);
     }
-    if finite_at(s, 6) {
-        if finite_at(s, 10) {
-            Reading::Accepted(Message::ModeRange {
-                port: s[3],
-                mode: s[4],
-                information: s[5],
-                lowest: f32_at(s, 6),
-                highest: f32_at(s, 10),
-            })
-        } else {
-            outside(10)
-        }
-    } else {
-        outside(6)
+    if !finite_at(s, 6) {
+        return outside(6);
     }
+    if !finite_at(s, 10) {
+        return outside(10);
+    }
+    Reading::Accepted(Message::ModeRange {
+        port: s[3],
+        mode,
+        information: s[5],
+        lowest: f32_at(s, 6),
+        highest: f32_at(s, 10),
+    })
 }
 
 fn mode_mapping(s: &[u8]) -> Reading
@@ -91,12 +92,13 @@ fn mode_mapping(s: &[u8]) -> Reading
     if s.len() != 8 {
         return wrong_size();
     }
-    if 15 < s[4] {
+    let mode = s[4];
+    if 15 < mode {
         return outside(4);
     }
     Reading::Accepted(Message::ModeMapping {
         port: s[3],
-        mode: s[4],
+        mode,
         mapping: u16_at(s, 6),
     })
 }
@@ -108,16 +110,18 @@ fn mode_bias(s: &[u8]) -> Reading
     if s.len() != 7 {
         return wrong_size();
     }
-    if 15 < s[4] {
+    let mode = s[4];
+    if 15 < mode {
         return outside(4);
     }
-    if 100 < s[6] {
+    let bias = s[6];
+    if 100 < bias {
         return outside(6);
     }
     Reading::Accepted(Message::ModeBias {
         port: s[3],
-        mode: s[4],
-        bias: s[6],
+        mode,
+        bias,
     })
 }
 
@@ -128,12 +132,13 @@ fn mode_capabilities(s: &[u8]) -> Reading
     if s.len() != 12 {
         return wrong_size();
     }
-    if 15 < s[4] {
+    let mode = s[4];
+    if 15 < mode {
         return outside(4);
     }
     Reading::Accepted(Message::ModeCapabilities {
         port: s[3],
-        mode: s[4],
+        mode,
         bits: u48_at(s, 6),
     })
 }
@@ -145,23 +150,23 @@ fn value_format(s: &[u8]) -> Reading
     if s.len() != 10 {
         return wrong_size();
     }
-    if 15 < s[4] {
+    let mode = s[4];
+    if 15 < mode {
         return outside(4);
     }
-    if s[6] < 1 {
+    let datasets = s[6];
+    if !between(1, datasets, 16) {
         return outside(6);
     }
-    if 16 < s[6] {
-        return outside(6);
-    }
-    if 3 < s[7] {
+    let kind = s[7];
+    if 3 < kind {
         return outside(7);
     }
     Reading::Accepted(Message::ValueFormat {
         port: s[3],
-        mode: s[4],
-        datasets: s[6],
-        kind: s[7],
+        mode,
+        datasets,
+        kind,
         figures: s[8],
         decimals: s[9],
     })

@@ -36,18 +36,25 @@ pub(crate) fn u32_at(s: &[u8], at: usize) -> u32
     b0 + 256 * (b1 + 256 * (b2 + 256 * b3))
 }
 
+// Three bytes, most significant first.
+fn u24_at(s: &[u8], at: usize) -> u32
+    requires { ⌜ at + 2 < length (now s) ⌝ }
+    ensures { λ r. ⌜ (r ≡ bigEndian (now (s .entry)) at 3) × (r < 16777216) ⌝ }
+{
+    let b0 = byte(s, at);
+    let b1 = byte(s, at + 1);
+    let b2 = byte(s, at + 2);
+    (b0 * 256 + b1) * 256 + b2
+}
+
 // Six bytes, most significant first.
 pub(crate) fn u48_at(s: &[u8], at: usize) -> u64
     requires { ⌜ at + 5 < length (now s) ⌝ }
     ensures { λ r. ⌜ r ≡ bigEndian (now (s .entry)) at 6 ⌝ }
 {
-    let b0 = byte(s, at) as u64;
-    let b1 = byte(s, at + 1) as u64;
-    let b2 = byte(s, at + 2) as u64;
-    let b3 = byte(s, at + 3) as u64;
-    let b4 = byte(s, at + 4) as u64;
-    let b5 = byte(s, at + 5) as u64;
-    ((((b0 * 256 + b1) * 256 + b2) * 256 + b3) * 256 + b4) * 256 + b5
+    let high = u24_at(s, at) as u64;
+    let low = u24_at(s, at + 3) as u64;
+    high * 16777216 + low
 }
 
 // A byte in two's complement.

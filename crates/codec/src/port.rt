@@ -78,12 +78,13 @@ pub(crate) fn port_information_request(s: &[u8]) -> Reading
     if s.len() != 5 {
         return wrong_size();
     }
-    if 2 < s[4] {
+    let information = s[4];
+    if 2 < information {
         return outside(4);
     }
     Reading::Accepted(Message::PortInformationRequest {
         port: s[3],
-        information: s[4],
+        information,
     })
 }
 
@@ -109,18 +110,19 @@ pub(crate) fn mode_information_request(s: &[u8]) -> Reading
     if s.len() != 6 {
         return wrong_size();
     }
-    if 15 < s[4] {
+    let mode = s[4];
+    if 15 < mode {
         return outside(4);
     }
-    if is_information_type(s[5]) {
-        Reading::Accepted(Message::ModeInformationRequest {
-            port: s[3],
-            mode: s[4],
-            information: s[5],
-        })
-    } else {
-        outside(5)
+    let information = s[5];
+    if !is_information_type(information) {
+        return outside(5);
     }
+    Reading::Accepted(Message::ModeInformationRequest {
+        port: s[3],
+        mode,
+        information,
+    })
 }
 
 // 0x41
@@ -130,17 +132,19 @@ pub(crate) fn input_format_setup(s: &[u8]) -> Reading
     if s.len() != 10 {
         return wrong_size();
     }
-    if 15 < s[4] {
+    let mode = s[4];
+    if 15 < mode {
         return outside(4);
     }
-    if 1 < s[9] {
+    let notify = s[9];
+    if 1 < notify {
         return outside(9);
     }
     Reading::Accepted(Message::InputFormatSetup {
         port: s[3],
-        mode: s[4],
+        mode,
         delta: u32_at(s, 5),
-        notify: s[9],
+        notify,
     })
 }
 
@@ -166,12 +170,13 @@ fn port_modes(s: &[u8]) -> Reading
     if s.len() != 11 {
         return wrong_size();
     }
-    if 15 < s[5] {
+    let capabilities = s[5];
+    if 15 < capabilities {
         return outside(5);
     }
     Reading::Accepted(Message::PortModes {
         port: s[3],
-        capabilities: s[5],
+        capabilities,
         mode_count: s[6],
         input_modes: u16_at(s, 7),
         output_modes: u16_at(s, 9),
@@ -190,16 +195,17 @@ fn port_combinations(s: &[u8]) -> Reading
     requires { ⌜ getD (now s) 4 0 ≡ 2 ⌝ }
     ensures { λ r. ⌜ answerOf r ≡ decodeForm Form.portCombinations (now (s .entry)) ⌝ }
 {
-    if s.len() < 7 {
+    let size = s.len();
+    if size < 7 {
         return wrong_size();
     }
-    if 21 < s.len() {
+    if 21 < size {
         return wrong_size();
     }
-    if (s.len() - 5) % 2 != 0 {
+    if (size - 5) % 2 != 0 {
         return wrong_size();
     }
-    let count = (s.len() - 5) / 2;
+    let count = (size - 5) / 2;
     Reading::Accepted(Message::PortCombinations {
         port: s[3],
         combinations: Combinations {
@@ -236,17 +242,19 @@ pub(crate) fn input_format(s: &[u8]) -> Reading
     if s.len() != 10 {
         return wrong_size();
     }
-    if 15 < s[4] {
+    let mode = s[4];
+    if 15 < mode {
         return outside(4);
     }
-    if 1 < s[9] {
+    let notify = s[9];
+    if 1 < notify {
         return outside(9);
     }
     Reading::Accepted(Message::InputFormat {
         port: s[3],
-        mode: s[4],
+        mode,
         delta: u32_at(s, 5),
-        notify: s[9],
+        notify,
     })
 }
 

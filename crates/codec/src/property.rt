@@ -6,6 +6,7 @@ use crate::number::u32_at;
 use crate::number::u48_at;
 use crate::refusal::outside;
 use crate::refusal::wrong_size;
+use crate::rule::between;
 use protocol::Message;
 use protocol::Reading;
 use protocol::Way;
@@ -88,20 +89,18 @@ pub(crate) fn hub_properties(s: &[u8], way: Way) -> Reading
     if s.len() < 5 {
         return wrong_size();
     }
-    if s[3] < 1 {
+    let property = s[3];
+    if !between(1, property, 15) {
         return outside(3);
     }
-    if 15 < s[3] {
-        return outside(3);
+    let operation = s[4];
+    if !allowed(way, property, operation) {
+        return outside(4);
     }
-    if allowed(way, s[3], s[4]) {
-        if carries(s[4]) {
-            payload(s)
-        } else {
-            property_command(s)
-        }
+    if carries(operation) {
+        payload(s)
     } else {
-        outside(4)
+        property_command(s)
     }
 }
 
@@ -173,14 +172,15 @@ fn property_byte(s: &[u8]) -> Reading
     if s.len() != 6 {
         return wrong_size();
     }
-    let most = greatest(s[3]);
-    if most < s[5] {
+    let property = s[3];
+    let value = s[5];
+    if greatest(property) < value {
         return outside(5);
     }
     Reading::Accepted(Message::PropertyByte {
-        property: s[3],
+        property,
         operation: s[4],
-        value: s[5],
+        value,
     })
 }
 

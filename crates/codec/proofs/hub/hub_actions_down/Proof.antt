@@ -1,8 +1,8 @@
-use borrow.Author.Needs.{needs}
-use borrow.Author.Tests.{lt-ltb, le-ltb, le-leb, lt-leb}
 use mathlib.Core.Path.{sym, _∙_}
-use Rattle.protocol.specs.Decode.{decodeType}
+use borrow.Author.Tests.{lt-ltb, le-ltb, not-true, not-false}
 use Rattle.protocol.specs.Types.{hubActions}
+use Rattle.protocol.specs.Decode.{decodeType}
+use borrow.Author.Needs.{needs}
 use Rattle.codec.proofs.hub.hub_actions_down.Statement.{statement}
 use Rattle.codec.proofs.hub.hub_actions_down.Tie as tie
 use Rattle.codec.proofs.hub.hub_actions_down.Reads as reads
@@ -12,40 +12,40 @@ use Rattle.codec.proofs.hub.is_down_action.Reads as is-down-action-read
 use Rattle.codec.proofs.refusal.outside.Reads as outside-reads
 use Rattle.codec.proofs.refusal.wrong_size.Reads as wrong-size-reads
 
--- src/hub.rt:31:9
+-- src/hub.rt:32:9
 wrong-size-requires : tie.Need-wrong-size-requires
 wrong-size-requires c κs = search needs
 
--- src/hub.rt:31:9
+-- src/hub.rt:32:9
 returns : tie.Need-returns
 unfolding decodeType hubActions
 returns c = simp (c .wrong-size .ensures, lt-ltb _ _ (c .before .if1 .taken))
 
--- src/hub.rt:33:23
+-- src/hub.rt:34:24
 shared-slice-read-is-down-action : tie.Need-shared-slice-read-is-down-action
 shared-slice-read-is-down-action c = search needs
 
--- src/hub.rt:33:8
+-- src/hub.rt:34:9
 is-down-action-requires : tie.Need-is-down-action-requires
 is-down-action-requires c κs = search needs
 
--- src/hub.rt:34:9
-hub-action-requires : tie.Need-hub-action-requires
-hub-action-requires c κs = search needs
-
--- src/hub.rt:36:9
+-- src/hub.rt:35:9
 outside-requires : tie.Need-outside-requires
 outside-requires c κs = search needs
 
--- src/hub.rt:27:1
+-- src/hub.rt:35:9
 returns-2 : tie.Need-returns-2
 unfolding decodeType hubActions
-returns-2 c = simp (c .hub-action .ensures, sym (c .before .before .is-down-action .ensures) ∙ c .before .if2 .taken, le-ltb _ _ (c .before .before .before .before .if1 .left))
+returns-2 c = simp (c .outside .ensures, sym (c .before .before .is-down-action .ensures) ∙ not-true _ (c .before .if2 .taken), le-ltb _ _ (c .before .before .before .before .if1 .left))
 
--- src/hub.rt:27:1
+-- src/hub.rt:37:5
+hub-action-requires : tie.Need-hub-action-requires
+hub-action-requires c κs = search needs
+
+-- src/hub.rt:28:1
 returns-3 : tie.Need-returns-3
 unfolding decodeType hubActions
-returns-3 c = simp (c .outside .ensures, sym (c .before .before .is-down-action .ensures) ∙ c .before .if2 .left, le-ltb _ _ (c .before .before .before .before .if1 .left))
+returns-3 c = simp (c .hub-action .ensures, sym (c .before .before .is-down-action .ensures) ∙ not-false _ (c .before .if2 .left), le-ltb _ _ (c .before .before .before .before .if1 .left))
 
 pub hub-actions-down-spec : {M : Type 1} → statement M
 hub-actions-down-spec =
@@ -55,7 +55,7 @@ hub-actions-down-spec =
     returns
     shared-slice-read-is-down-action
     is-down-action-requires
-    hub-action-requires
     outside-requires
     returns-2
+    hub-action-requires
     returns-3)

@@ -1,7 +1,8 @@
-use borrow.Author.Needs.{needs}
-use borrow.Author.Tests.{lt-ltb, le-ltb, le-leb, lt-leb}
-use Rattle.protocol.specs.Decode.{decodeType}
+use mathlib.Core.Path.{sym, _∙_}
+use borrow.Author.Tests.{lt-ltb, le-ltb, not-true, not-false}
 use Rattle.protocol.specs.Types.{hubActions}
+use Rattle.protocol.specs.Decode.{decodeType}
+use borrow.Author.Needs.{needs}
 use Rattle.codec.proofs.hub.hub_actions_up.Statement.{statement}
 use Rattle.codec.proofs.hub.hub_actions_up.Tie as tie
 use Rattle.codec.proofs.hub.hub_actions_up.Reads as reads
@@ -9,6 +10,7 @@ use Rattle.codec.proofs.hub.hub_actions_up.Lts as lts
 use Rattle.codec.proofs.hub.hub_action.Reads as hub-action-reads
 use Rattle.codec.proofs.refusal.outside.Reads as outside-reads
 use Rattle.codec.proofs.refusal.wrong_size.Reads as wrong-size-reads
+use Rattle.codec.proofs.rule.between.Reads as between-reads
 
 -- src/hub.rt:45:9
 wrong-size-requires : tie.Need-wrong-size-requires
@@ -19,9 +21,13 @@ returns : tie.Need-returns
 unfolding decodeType hubActions
 returns c = simp (c .wrong-size .ensures, lt-ltb _ _ (c .before .if1 .taken))
 
--- src/hub.rt:47:8
-shared-slice-read-if2 : tie.Need-shared-slice-read-if2
-shared-slice-read-if2 c = search needs
+-- src/hub.rt:47:23
+shared-slice-read-between : tie.Need-shared-slice-read-between
+shared-slice-read-between c = search needs
+
+-- src/hub.rt:47:9
+between-requires : tie.Need-between-requires
+between-requires c κs = search needs
 
 -- src/hub.rt:48:9
 outside-requires : tie.Need-outside-requires
@@ -30,29 +36,16 @@ outside-requires c κs = search needs
 -- src/hub.rt:48:9
 returns-2 : tie.Need-returns-2
 unfolding decodeType hubActions
-returns-2 c = simp (c .outside .ensures, lt-leb _ _ (c .before .if2 .taken), le-ltb _ _ (c .before .before .before .if1 .left))
+returns-2 c = simp (c .outside .ensures, sym (c .before .before .between .ensures) ∙ not-true _ (c .before .if2 .taken), le-ltb _ _ (c .before .before .before .before .if1 .left))
 
--- src/hub.rt:50:15
-shared-slice-read-if3 : tie.Need-shared-slice-read-if3
-shared-slice-read-if3 c = search needs
-
--- src/hub.rt:51:9
-outside-requires-2 : tie.Need-outside-requires-2
-outside-requires-2 c κs = search needs
-
--- src/hub.rt:51:9
-returns-3 : tie.Need-returns-3
-unfolding decodeType hubActions
-returns-3 c = simp (c .outside2 .ensures, lt-leb _ _ (c .before .if3 .taken), le-leb _ _ (c .before .before .before .if2 .left), le-ltb _ _ (c .before .before .before .before .before .if1 .left))
-
--- src/hub.rt:53:5
+-- src/hub.rt:50:5
 hub-action-requires : tie.Need-hub-action-requires
 hub-action-requires c κs = search needs
 
 -- src/hub.rt:41:1
-returns-4 : tie.Need-returns-4
+returns-3 : tie.Need-returns-3
 unfolding decodeType hubActions
-returns-4 c = simp (c .hub-action .ensures, le-leb _ _ (c .before .if3 .left), le-leb _ _ (c .before .before .before .if2 .left), le-ltb _ _ (c .before .before .before .before .before .if1 .left))
+returns-3 c = simp (c .hub-action .ensures, sym (c .before .before .between .ensures) ∙ not-false _ (c .before .if2 .left), le-ltb _ _ (c .before .before .before .before .if1 .left))
 
 pub hub-actions-up-spec : {M : Type 1} → statement M
 hub-actions-up-spec =
@@ -60,11 +53,9 @@ hub-actions-up-spec =
     (tie.spec
     wrong-size-requires
     returns
-    shared-slice-read-if2
+    shared-slice-read-between
+    between-requires
     outside-requires
     returns-2
-    shared-slice-read-if3
-    outside-requires-2
-    returns-3
     hub-action-requires
-    returns-4)
+    returns-3)

@@ -1,7 +1,8 @@
-use borrow.Author.Needs.{needs}
-use borrow.Author.Tests.{lt-ltb, le-ltb, eq-eqb, le-leb, lt-leb, ne-eqb}
-use Rattle.protocol.specs.Decode.{decodeType}
+use mathlib.Core.Path.{sym, _∙_}
+use borrow.Author.Tests.{lt-ltb, le-ltb, eq-eqb, ne-eqb, not-true, not-false}
 use Rattle.protocol.specs.Types.{hubAlerts}
+use Rattle.protocol.specs.Decode.{decodeType}
+use borrow.Author.Needs.{needs}
 use Rattle.codec.proofs.hub.hub_alerts_up.Statement.{statement}
 use Rattle.codec.proofs.hub.hub_alerts_up.Tie as tie
 use Rattle.codec.proofs.hub.hub_alerts_up.Reads as reads
@@ -9,63 +10,55 @@ use Rattle.codec.proofs.hub.hub_alerts_up.Lts as lts
 use Rattle.codec.proofs.hub.alert_update.Reads as alert-update-reads
 use Rattle.codec.proofs.refusal.outside.Reads as outside-reads
 use Rattle.codec.proofs.refusal.wrong_size.Reads as wrong-size-reads
+use Rattle.codec.proofs.rule.between.Reads as between-reads
 
--- src/hub.rt:92:9
+-- src/hub.rt:83:9
 wrong-size-requires : tie.Need-wrong-size-requires
 wrong-size-requires c κs = search needs
 
--- src/hub.rt:92:9
+-- src/hub.rt:83:9
 returns : tie.Need-returns
 unfolding decodeType hubAlerts
 returns c = simp (c .wrong-size .ensures, lt-ltb _ _ (c .before .if1 .taken))
 
--- src/hub.rt:94:8
-shared-slice-read-if2 : tie.Need-shared-slice-read-if2
-shared-slice-read-if2 c = search needs
+-- src/hub.rt:85:20
+shared-slice-read-between : tie.Need-shared-slice-read-between
+shared-slice-read-between c = search needs
 
--- src/hub.rt:95:9
+-- src/hub.rt:85:9
+between-requires : tie.Need-between-requires
+between-requires c κs = search needs
+
+-- src/hub.rt:86:9
 outside-requires : tie.Need-outside-requires
 outside-requires c κs = search needs
 
--- src/hub.rt:95:9
+-- src/hub.rt:86:9
 returns-2 : tie.Need-returns-2
 unfolding decodeType hubAlerts
-returns-2 c = simp (c .outside .ensures, lt-leb _ _ (c .before .if2 .taken), le-ltb _ _ (c .before .before .before .if1 .left))
+returns-2 c = simp (c .outside .ensures, sym (c .before .before .between .ensures) ∙ not-true _ (c .before .if2 .taken), le-ltb _ _ (c .before .before .before .before .if1 .left))
 
--- src/hub.rt:97:12
+-- src/hub.rt:88:8
 shared-slice-read-if3 : tie.Need-shared-slice-read-if3
 shared-slice-read-if3 c = search needs
 
--- src/hub.rt:98:9
+-- src/hub.rt:89:9
 outside-requires-2 : tie.Need-outside-requires-2
 outside-requires-2 c κs = search needs
 
--- src/hub.rt:98:9
+-- src/hub.rt:89:9
 returns-3 : tie.Need-returns-3
 unfolding decodeType hubAlerts
-returns-3 c = simp (c .outside2 .ensures, lt-leb _ _ (c .before .if3 .taken), le-leb _ _ (c .before .before .before .if2 .left), le-ltb _ _ (c .before .before .before .before .before .if1 .left))
+returns-3 c = simp (c .outside2 .ensures, ne-eqb _ _ (c .before .if3 .taken), sym (c .before .before .before .before .between .ensures) ∙ not-false _ (c .before .before .before .if2 .left), le-ltb _ _ (c .before .before .before .before .before .before .if1 .left))
 
--- src/hub.rt:100:8
-shared-slice-read-if4 : tie.Need-shared-slice-read-if4
-shared-slice-read-if4 c = search needs
-
--- src/hub.rt:101:9
-outside-requires-3 : tie.Need-outside-requires-3
-outside-requires-3 c κs = search needs
-
--- src/hub.rt:101:9
-returns-4 : tie.Need-returns-4
-unfolding decodeType hubAlerts
-returns-4 c = simp (c .outside3 .ensures, ne-eqb _ _ (c .before .if4 .taken), le-leb _ _ (c .before .before .before .if3 .left), le-leb _ _ (c .before .before .before .before .before .if2 .left), le-ltb _ _ (c .before .before .before .before .before .before .before .if1 .left))
-
--- src/hub.rt:103:5
+-- src/hub.rt:91:5
 alert-update-requires : tie.Need-alert-update-requires
 alert-update-requires c κs = search needs
 
--- src/hub.rt:88:1
-returns-5 : tie.Need-returns-5
+-- src/hub.rt:79:1
+returns-4 : tie.Need-returns-4
 unfolding decodeType hubAlerts
-returns-5 c = simp (c .alert-update .ensures, eq-eqb _ _ (c .before .if4 .left), le-leb _ _ (c .before .before .before .if3 .left), le-leb _ _ (c .before .before .before .before .before .if2 .left), le-ltb _ _ (c .before .before .before .before .before .before .before .if1 .left))
+returns-4 c = simp (c .alert-update .ensures, eq-eqb _ _ (c .before .if3 .left), sym (c .before .before .before .before .between .ensures) ∙ not-false _ (c .before .before .before .if2 .left), le-ltb _ _ (c .before .before .before .before .before .before .if1 .left))
 
 pub hub-alerts-up-spec : {M : Type 1} → statement M
 hub-alerts-up-spec =
@@ -73,14 +66,12 @@ hub-alerts-up-spec =
     (tie.spec
     wrong-size-requires
     returns
-    shared-slice-read-if2
+    shared-slice-read-between
+    between-requires
     outside-requires
     returns-2
     shared-slice-read-if3
     outside-requires-2
     returns-3
-    shared-slice-read-if4
-    outside-requires-3
-    returns-4
     alert-update-requires
-    returns-5)
+    returns-4)

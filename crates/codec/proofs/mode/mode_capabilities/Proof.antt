@@ -1,8 +1,8 @@
-use borrow.Author.Needs.{needs}
-use borrow.Author.Tests.{eq-eqb, le-leb, lt-leb, ne-eqb}
-use Rattle.protocol.specs.Number.{littleEndian, bigEndian}
+use borrow.Author.Tests.{eq-eqb, ne-eqb, le-leb, lt-leb}
+use Rattle.protocol.specs.Number.{littleEndian}
 use Rattle.protocol.specs.Form.{layout}
 use Rattle.protocol.specs.Decode.{decodeForm}
+use borrow.Author.Needs.{needs}
 use Rattle.codec.proofs.mode.mode_capabilities.Statement.{statement}
 use Rattle.codec.proofs.mode.mode_capabilities.Tie as tie
 use Rattle.codec.proofs.mode.mode_capabilities.Reads as reads
@@ -11,44 +11,40 @@ use Rattle.codec.proofs.number.u48_at.Reads as u48-at-reads
 use Rattle.codec.proofs.refusal.outside.Reads as outside-reads
 use Rattle.codec.proofs.refusal.wrong_size.Reads as wrong-size-reads
 
--- src/mode.rt:131:9
+-- src/mode.rt:133:9
 wrong-size-requires : tie.Need-wrong-size-requires
 wrong-size-requires c κs = search needs
 
--- src/mode.rt:131:9
+-- src/mode.rt:133:9
 returns : tie.Need-returns
-unfolding decodeForm layout littleEndian bigEndian
-returns c = simp (c .wrong-size .ensures, ne-eqb _ _ (c .before .if1 .taken), c .before .before .before .pre)
+unfolding decodeForm layout littleEndian
+returns c = simp (c .wrong-size .ensures, ne-eqb _ _ (c .before .if1 .taken))
 
--- src/mode.rt:133:13
-shared-slice-read-if2 : tie.Need-shared-slice-read-if2
-shared-slice-read-if2 c = search needs
+-- src/mode.rt:135:16
+shared-slice-read-mode : tie.Need-shared-slice-read-mode
+shared-slice-read-mode c = search needs
 
--- src/mode.rt:134:9
+-- src/mode.rt:137:9
 outside-requires : tie.Need-outside-requires
 outside-requires c κs = search needs
 
--- src/mode.rt:134:9
+-- src/mode.rt:137:9
 returns-2 : tie.Need-returns-2
-unfolding decodeForm layout littleEndian bigEndian
-returns-2 c = simp (c .outside .ensures, lt-leb _ _ (c .before .if2 .taken), eq-eqb _ _ (c .before .before .before .if1 .left), c .before .before .before .before .before .pre)
+unfolding decodeForm layout littleEndian
+returns-2 c = simp (c .outside .ensures, lt-leb _ _ (c .before .if2 .taken), eq-eqb _ _ (c .before .before .before .if1 .left))
 
--- src/mode.rt:137:15
-shared-slice-read-t5 : tie.Need-shared-slice-read-t5
-shared-slice-read-t5 c = search needs
+-- src/mode.rt:140:15
+shared-slice-read-t6 : tie.Need-shared-slice-read-t6
+shared-slice-read-t6 c = search needs
 
--- src/mode.rt:138:15
-shared-slice-read-t8 : tie.Need-shared-slice-read-t8
-shared-slice-read-t8 c = search needs
-
--- src/mode.rt:139:15
+-- src/mode.rt:142:15
 u48-at-requires : tie.Need-u48-at-requires
 u48-at-requires c κs = search needs
 
--- src/mode.rt:126:1
+-- src/mode.rt:128:1
 returns-3 : tie.Need-returns-3
-unfolding decodeForm layout littleEndian bigEndian
-returns-3 c = simp (c .u48-at .ensures, le-leb _ _ (c .before .before .before .if2 .left), eq-eqb _ _ (c .before .before .before .before .before .if1 .left), c .before .before .before .before .before .before .before .pre)
+unfolding decodeForm layout littleEndian
+returns-3 c = simp (c .u48-at .ensures, le-leb _ _ (c .before .before .if2 .left), eq-eqb _ _ (c .before .before .before .before .if1 .left), c .before .before .before .before .before .before .pre)
 
 pub mode-capabilities-spec : {M : Type 1} → statement M
 mode-capabilities-spec =
@@ -56,10 +52,9 @@ mode-capabilities-spec =
     (tie.spec
     wrong-size-requires
     returns
-    shared-slice-read-if2
+    shared-slice-read-mode
     outside-requires
     returns-2
-    shared-slice-read-t5
-    shared-slice-read-t8
+    shared-slice-read-t6
     u48-at-requires
     returns-3)

@@ -1,8 +1,8 @@
-use borrow.Author.Needs.{needs}
 use borrow.Author.Tests.{le-leb, lt-leb}
 use Rattle.protocol.specs.Number.{littleEndian}
 use Rattle.protocol.specs.Form.{layout}
 use Rattle.protocol.specs.Decode.{decodeForm}
+use borrow.Author.Needs.{needs}
 use Rattle.codec.proofs.mode.mode_text.Statement.{statement}
 use Rattle.codec.proofs.mode.mode_text.Tie as tie
 use Rattle.codec.proofs.mode.mode_text.Reads as reads
@@ -28,35 +28,31 @@ returns-2 : tie.Need-returns-2
 unfolding decodeForm layout littleEndian
 returns-2 c = simp (c .wrong-size2 .ensures, lt-leb _ _ (c .before .if2 .taken), le-leb _ _ (c .before .before .if1 .left), ← c .before .before .before .before .pre)
 
--- src/mode.rt:52:13
-shared-slice-read-if3 : tie.Need-shared-slice-read-if3
-shared-slice-read-if3 c = search needs
+-- src/mode.rt:52:16
+shared-slice-read-mode : tie.Need-shared-slice-read-mode
+shared-slice-read-mode c = search needs
 
--- src/mode.rt:53:9
+-- src/mode.rt:54:9
 outside-requires : tie.Need-outside-requires
 outside-requires c κs = search needs
 
--- src/mode.rt:53:9
+-- src/mode.rt:54:9
 returns-3 : tie.Need-returns-3
 unfolding decodeForm layout littleEndian
 returns-3 c = simp (c .outside .ensures, lt-leb _ _ (c .before .if3 .taken), le-leb _ _ (c .before .before .before .if2 .left), le-leb _ _ (c .before .before .before .before .if1 .left), ← c .before .before .before .before .before .before .pre)
 
--- src/mode.rt:56:15
-shared-slice-read-t6 : tie.Need-shared-slice-read-t6
-shared-slice-read-t6 c = search needs
-
 -- src/mode.rt:57:15
-shared-slice-read-t9 : tie.Need-shared-slice-read-t9
-shared-slice-read-t9 c = search needs
+shared-slice-read-t7 : tie.Need-shared-slice-read-t7
+shared-slice-read-t7 c = search needs
 
--- src/mode.rt:58:22
-shared-slice-read-t11 : tie.Need-shared-slice-read-t11
-shared-slice-read-t11 c = search needs
+-- src/mode.rt:59:22
+shared-slice-read-t10 : tie.Need-shared-slice-read-t10
+shared-slice-read-t10 c = search needs
 
 -- src/mode.rt:42:1
 returns-4 : tie.Need-returns-4
 unfolding decodeForm layout littleEndian
-returns-4 c = simp (le-leb _ _ (c .before .before .before .if3 .left), le-leb _ _ (c .before .before .before .before .before .if2 .left), le-leb _ _ (c .before .before .before .before .before .before .if1 .left), ← c .before .before .before .before .before .before .before .before .pre)
+returns-4 c = simp (le-leb _ _ (c .before .before .if3 .left), le-leb _ _ (c .before .before .before .before .if2 .left), le-leb _ _ (c .before .before .before .before .before .if1 .left), ← c .before .before .before .before .before .before .before .pre)
 
 pub mode-text-spec : {M : Type 1} → statement M
 mode-text-spec =
@@ -66,10 +62,9 @@ mode-text-spec =
     returns
     wrong-size-requires-2
     returns-2
-    shared-slice-read-if3
+    shared-slice-read-mode
     outside-requires
     returns-3
-    shared-slice-read-t6
-    shared-slice-read-t9
-    shared-slice-read-t11
+    shared-slice-read-t7
+    shared-slice-read-t10
     returns-4)

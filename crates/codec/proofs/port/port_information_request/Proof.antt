@@ -1,8 +1,8 @@
-use borrow.Author.Needs.{needs}
-use borrow.Author.Tests.{eq-eqb, le-leb, lt-leb, ne-eqb}
+use borrow.Author.Tests.{eq-eqb, ne-eqb, le-leb, lt-leb}
 use Rattle.protocol.specs.Number.{littleEndian}
 use Rattle.protocol.specs.Form.{layout}
 use Rattle.protocol.specs.Decode.{decodeForm}
+use borrow.Author.Needs.{needs}
 use Rattle.codec.proofs.port.port_information_request.Statement.{statement}
 use Rattle.codec.proofs.port.port_information_request.Tie as tie
 use Rattle.codec.proofs.port.port_information_request.Reads as reads
@@ -19,31 +19,27 @@ returns : tie.Need-returns
 unfolding decodeForm layout littleEndian
 returns c = simp (c .wrong-size .ensures, ne-eqb _ _ (c .before .if1 .taken))
 
--- src/port.rt:81:12
-shared-slice-read-if2 : tie.Need-shared-slice-read-if2
-shared-slice-read-if2 c = search needs
+-- src/port.rt:81:23
+shared-slice-read-information : tie.Need-shared-slice-read-information
+shared-slice-read-information c = search needs
 
--- src/port.rt:82:9
+-- src/port.rt:83:9
 outside-requires : tie.Need-outside-requires
 outside-requires c κs = search needs
 
--- src/port.rt:82:9
+-- src/port.rt:83:9
 returns-2 : tie.Need-returns-2
 unfolding decodeForm layout littleEndian
 returns-2 c = simp (c .outside .ensures, lt-leb _ _ (c .before .if2 .taken), eq-eqb _ _ (c .before .before .before .if1 .left))
 
--- src/port.rt:85:15
-shared-slice-read-t5 : tie.Need-shared-slice-read-t5
-shared-slice-read-t5 c = search needs
-
--- src/port.rt:86:22
-shared-slice-read-t8 : tie.Need-shared-slice-read-t8
-shared-slice-read-t8 c = search needs
+-- src/port.rt:86:15
+shared-slice-read-t6 : tie.Need-shared-slice-read-t6
+shared-slice-read-t6 c = search needs
 
 -- src/port.rt:75:1
 returns-3 : tie.Need-returns-3
 unfolding decodeForm layout littleEndian
-returns-3 c = simp (le-leb _ _ (c .before .before .if2 .left), eq-eqb _ _ (c .before .before .before .before .if1 .left))
+returns-3 c = simp (le-leb _ _ (c .before .if2 .left), eq-eqb _ _ (c .before .before .before .if1 .left))
 
 pub port-information-request-spec : {M : Type 1} → statement M
 port-information-request-spec =
@@ -51,9 +47,8 @@ port-information-request-spec =
     (tie.spec
     wrong-size-requires
     returns
-    shared-slice-read-if2
+    shared-slice-read-information
     outside-requires
     returns-2
-    shared-slice-read-t5
-    shared-slice-read-t8
+    shared-slice-read-t6
     returns-3)
