@@ -1,11 +1,11 @@
 -- A float as its bits, at a NaN too.
-use Prim.Native.Nat.{ℕ, zero, _+_, _*_, _<_}
-use mathlib.Core.Path.{_≡_, refl, sym, _∙_, ap}
+use Prim.Native.Nat.{ℕ, _*_}
+use mathlib.Core.Path.{_≡_, refl}
 use mathlib.Core.Bool.{Bool, true, false, not, _&&_, _||_}
 use native.Mathlib.Omega.{arith}
 use borrow.Author.Tests.{eq-eqb}
 use lib.Dec.{T, eqb}
-use lib.Ieee.{Float, nan, inf, fin, Format, binary32, up, down, eq, isNan, toBits}
+use lib.Ieee.{Float, nan, inf, fin, binary32, up, down, eq, isNan, toBits}
 use mathlib.Core.Bool.{Bool·beq}
 
 same-sign : (s : Bool) → Bool·beq s s ≡ true

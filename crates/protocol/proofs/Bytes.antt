@@ -1,14 +1,11 @@
 -- Numbers to bytes and back, over the width.
 use Prim.Native.Nat.{ℕ, zero, suc, _+_, _*_, _-_, _/_, _%_, _^_, _≤_, _<_}
-use native.Mathlib.Nat.{add-zero, mul-zero, add-assoc, add-comm, mul-comm, mul-assoc, mul-add, pow-zero, pow-suc, pow-succ', mul-suc, two-pow-succ, div-add-mod'}
+use native.Mathlib.Nat.{add-zero, pow-zero, pow-suc}
 use native.Mathlib.Numerals.{add-one}
 use native.Mathlib.Omega.{arith}
 use mathlib.Core.Path.{_≡_, refl, sym, _∙_, ap}
-use mathlib.Core.Bool.{true, false}
 use mathlib.Core.List.{List, [], _∷_, _++_, reverse, reverse-cons, reverse-reverse}
-use lib.Arith.{digits-div, digits-mod}
-use lib.Pow.{pow-add}
-use lib.ListN.{length, getD, take, drop, length-append, length-drop, length-reverse}
+use lib.ListN.{length, getD, take, drop, length-drop, length-reverse}
 use lib.Seq.{drop-cons, length-take-le}
 use Rattle.protocol.specs.Number.{Bytes, littleEndian, bigEndian}
 use Rattle.protocol.specs.Encode.{lowFirst}

@@ -1,23 +1,21 @@
 -- One field: what was read is written back, and what was written is read back.
-use Prim.Native.Nat.{ℕ, zero, suc, _+_, _*_, _-_, _^_, _≤_, _<_}
+use Prim.Native.Nat.{ℕ, _+_, _-_, _^_, _≤_}
 use native.Mathlib.Omega.{arith}
-use native.Mathlib.Nat.{add-zero}
 use mathlib.Core.Path.{_≡_, refl, sym, _∙_, ap}
-use mathlib.Core.Bool.{Bool, true, false, cond, not, _&&_}
-use mathlib.Core.List.{List, [], _∷_, _++_, reverse}
+use mathlib.Core.Bool.{Bool, true, false, _&&_}
+use mathlib.Core.List.{List, [], _∷_, _++_}
 use mathlib.Core.Logic.{⊎-elim}
 use borrow.Author.Tests.{lt-ltb, ltb-true, eqb-true, eq-eqb}
 use lib.Dec.{T, ltb, eqb}
-use lib.IntN.{ℤ}
 use lib.Ieee.{Float, binary32, ofBits, toBits}
 use lib.Ieee as Ieee
 use lib.Ieee.Bits.{toBits-ofBits, ofBits-toBits, ofBits-fits, toBits-lt}
 use lib.ListN.{length, getD, take, drop, length-reverse}
 use Rattle.protocol.specs.Number.{Bytes, littleEndian, bigEndian, twosComplement, isFinite}
 use Rattle.protocol.specs.Rule.{Rule}
-use Rattle.protocol.specs.Field.{Field, number, highFirst, signed, float, fixed, Value, natural, integer, real, width, Fields, values, within, sameBytes, readField}
+use Rattle.protocol.specs.Field.{Field, number, highFirst, signed, float, fixed, Value, natural, integer, real, width, values, within, sameBytes, readField}
 use Rattle.protocol.specs.Field as Field'
-use Rattle.protocol.specs.Encode.{lowFirst, highBytes, ofInteger, inRange, holds, fieldBytes, Step, good, bad, taken, stepField, afterField, frontValue}
+use Rattle.protocol.specs.Encode.{lowFirst, ofInteger, holds, fieldBytes, good, bad, taken, stepField, afterField, frontValue}
 use Rattle.protocol.proofs.Tests.{which, and-left, and-right}
 use Rattle.protocol.proofs.Bytes.{part, part-cons, low-little, little-lt, high-big, big-lt, little-low, big-high, low-length}
 use Rattle.protocol.proofs.Signed.{integer-back, integer-ranged, integer-lt, integer-forth}

@@ -1,18 +1,17 @@
 -- The fields of a form, one after the other: what was read is written back, and what was written is read back.
-use Prim.Native.Nat.{ℕ, zero, suc, _+_, _≤_, _<_}
-use native.Mathlib.Nat.{add-assoc, add-zero}
+use Prim.Native.Nat.{ℕ, _+_, _≤_}
 use native.Mathlib.Omega.{arith}
 use mathlib.Core.Path.{_≡_, refl, sym, _∙_, ap}
 use mathlib.Core.List.{List, [], _∷_, _++_, append-assoc}
 use lib.ListN.{length, take, drop, length-append}
 use lib.Seq.{take-add, drop-drop, take-at, drop-at}
 use Rattle.protocol.specs.Number.{Bytes}
-use Rattle.protocol.specs.Field.{Field, number, highFirst, signed, float, fixed, Value, natural, integer, real, width, widths, Fields, values, prepend, andThen, readField, readFields}
+use Rattle.protocol.specs.Field.{Field, Value, width, widths, Fields, values, andThen, readField, readFields}
 use Rattle.protocol.specs.Field as Field'
 use Rattle.protocol.specs.Encode.{Step, good, bad, stepField, Written, wrote, before, writeFields, afterFields, frontValues}
 use Rattle.protocol.specs.Encode as Encode'
 use Rattle.protocol.proofs.Bytes.{part, part-length}
-use Rattle.protocol.proofs.FieldTrip.{Proper, read-step, step-read, step-length, step-after, ReadBack}
+use Rattle.protocol.proofs.FieldTrip.{Proper, read-step, step-read, step-length, step-after}
 
 abbrev pub AllProper : List Field → Type 0
 AllProper [] = Unit {0}

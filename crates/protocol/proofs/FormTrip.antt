@@ -1,24 +1,22 @@
 -- A form, without its header: what was read is written back, and what was written is read back.
-use Prim.Native.Nat.{ℕ, zero, suc, _+_, _*_, _-_, _/_, _%_, _≤_, _<_}
-use native.Mathlib.Nat.{add-assoc, add-zero}
+use Prim.Native.Nat.{ℕ, suc, _+_, _*_, _-_, _/_, _%_, _≤_}
+use native.Mathlib.Nat.{add-zero}
 use native.Mathlib.Omega.{arith}
 use mathlib.Core.Path.{_≡_, refl, sym, _∙_, ap}
-use mathlib.Core.Bool.{Bool, true, false, cond, _&&_}
+use mathlib.Core.Bool.{true, false, _&&_}
 use mathlib.Core.List.{List, [], _∷_, _++_}
 use mathlib.Core.Logic.{⊎-elim}
-use borrow.Author.Tests.{lt-ltb, le-ltb, ltb-true, leb-true, le-leb, eqb-true, eq-eqb}
-use lib.Dec.{ltb, leb, eqb}
+use borrow.Author.Tests.{leb-true, le-leb, eqb-true, eq-eqb}
+use lib.Dec.{leb, eqb}
 use lib.ListN.{length, take, drop, length-append, length-drop, drop-of-length-le, take-append-drop}
 use lib.Seq.{take-all, take-at, drop-at, drop-drop}
 use Rattle.protocol.specs.Number.{Bytes}
-use Rattle.protocol.specs.Field.{Field, Value, natural, integer, real, width, widths, Fields, values, andThen, readFields}
+use Rattle.protocol.specs.Field.{Field, Value, natural, widths, Fields, values, andThen, readFields}
 use Rattle.protocol.specs.Field as Field'
 use Rattle.protocol.specs.Form
 use Rattle.protocol.specs.Form.{Form, Rest, nothing, openRun, words, layout, fits, wordsFrom, upFrom, readRest, openBytes, code}
-use Rattle.protocol.specs.Decode.{Answer, accepted, wrongSize, header, valuesOrRefusal, decodeForm}
-use Rattle.protocol.specs.Decode as Decode'
-use Rattle.protocol.specs.Answer.{naturalAt}
-use Rattle.protocol.specs.Encode.{Encoded, encoded, Written, wrote, before, writeFields, restFits, writeRest, thenRest, framed, closed, afterFields, frontValues, encodeForm, keep, settleRest, settledValues}
+use Rattle.protocol.specs.Decode.{accepted, wrongSize, header, valuesOrRefusal, decodeForm}
+use Rattle.protocol.specs.Encode.{encoded, Written, wrote, before, writeFields, restFits, writeRest, thenRest, framed, closed, afterFields, encodeForm, settleRest, settledValues}
 use Rattle.protocol.specs.Encode as Encode'
 use Rattle.protocol.proofs.Tests.{which, and-left, and-right}
 use Rattle.protocol.proofs.Bytes.{part}

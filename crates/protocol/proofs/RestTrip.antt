@@ -1,22 +1,19 @@
 -- What follows the fields: what was read is written back, and what was written is read back.
-use Prim.Native.Nat.{ℕ, zero, suc, _+_, _*_, _-_, _/_, _%_, _≤_, _<_}
-use native.Mathlib.Nat.{add-assoc, add-zero}
+use Prim.Native.Nat.{ℕ, zero, suc, _+_, _*_, _-_, _≤_, _<_}
 use native.Mathlib.Omega.{arith}
 use mathlib.Core.Path.{_≡_, refl, sym, _∙_, ap}
-use mathlib.Core.Bool.{Bool, true, false, cond, _&&_}
-use mathlib.Core.List.{List, [], _∷_, _++_, append-assoc}
-use borrow.Author.Tests.{lt-ltb, le-ltb, ltb-true, leb-true, le-leb, eqb-true, eq-eqb}
-use lib.Dec.{ltb, leb, eqb}
-use lib.ListN.{length, take, drop, replicate, length-append, length-drop}
-use lib.Seq.{take-all}
+use mathlib.Core.Bool.{true, _&&_}
+use mathlib.Core.List.{List, [], _∷_, _++_}
+use borrow.Author.Tests.{lt-ltb, le-ltb, ltb-true}
+use lib.Dec.{ltb}
+use lib.ListN.{length, replicate}
 use Rattle.protocol.specs.Number.{Bytes, littleEndian}
 use Rattle.protocol.specs.Rule.{any}
-use Rattle.protocol.specs.Field.{Field, number, Value, natural, integer, real, width, widths, Fields, values, readFields}
-use Rattle.protocol.specs.Form.{Rest, nothing, openRun, words, fits, word, wordsFrom, upFrom, readRest, openBytes}
-use Rattle.protocol.specs.Answer.{naturalAt}
-use Rattle.protocol.specs.Encode.{lowFirst, holds, fieldBytes, Step, good, bad, stepField, Written, wrote, before, writeFields, restFits, writeRest, keep, settleRest}
-use Rattle.protocol.proofs.Tests.{and-left, and-right}
-use Rattle.protocol.proofs.Bytes.{part, part-length, low-little, low-length, little-lt, little-low}
+use Rattle.protocol.specs.Field.{Field, number, Value, natural, integer, real, widths}
+use Rattle.protocol.specs.Form.{word, wordsFrom, upFrom}
+use Rattle.protocol.specs.Encode.{lowFirst, holds, fieldBytes, good, stepField, wrote, writeFields, keep}
+use Rattle.protocol.proofs.Tests.{and-left}
+use Rattle.protocol.proofs.Bytes.{part, low-little, low-length, little-lt, little-low}
 use Rattle.protocol.proofs.FieldsTrip.{part-add, write-step, one-step, front-part}
 use Rattle.protocol.proofs.FieldTrip.{taken-good}
 

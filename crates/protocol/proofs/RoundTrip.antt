@@ -1,15 +1,13 @@
 -- Demand 2: what reading accepts, writing gives back byte for byte; what writing accepts, reading gives back field for field.
-use Prim.Native.Nat.{ℕ, zero, suc, _+_, _-_, _%_, _≤_, _<_}
-use native.Mathlib.Nat.{add-zero, add-suc, add-assoc}
+use Prim.Native.Nat.{ℕ, _+_, _-_, _%_, _≤_, _<_}
 use native.Mathlib.Omega.{arith}
 use mathlib.Core.Path.{_≡_, refl, sym, _∙_, ap}
 use mathlib.Core.Bool.{Bool, true, false, cond, _&&_}
-use mathlib.Core.List.{List, [], _∷_, _++_}
-use mathlib.Core.Logic.{⊎-elim}
+use mathlib.Core.List.{List, [], _∷_}
 use mathlib.Core.Option.{Option, none, some}
-use borrow.Author.Tests.{eqb-true, eqb-false, eq-eqb, ne-eqb, leb-true, lt-leb, ltb-false, le-ltb}
+use borrow.Author.Tests.{eqb-true, eq-eqb, ne-eqb, leb-true, lt-leb, ltb-false, le-ltb}
 use lib.Dec.{eqb, leb, ltb}
-use lib.ListN.{length, getD, take, drop, length-drop}
+use lib.ListN.{length, getD, take, drop}
 use lib.Seq.{getD-take, getD-drop}
 use Rattle.protocol.specs.Number.{Bytes}
 use Rattle.protocol.specs.Field.{Field, Value, natural, Fields, values, widths, andThen, readFields}
@@ -18,7 +16,7 @@ use Rattle.protocol.specs.Form
 use Rattle.protocol.specs.Form.{Form, layout, longestModeText, fits, readRest, openBytes, code, formNumber, argument, sameForm}
 use Rattle.protocol.specs.Properties.{longest}
 use Rattle.protocol.specs.Types.{Selection, always, select, MessageType, types, typeOf}
-use Rattle.protocol.specs.Decode.{Answer, accepted, wrongSize, header, valuesOrRefusal, decodeForm, decodeSelection, decodeType, decodeTyped, decodeWay, decode, openOf, openPart}
+use Rattle.protocol.specs.Decode.{Answer, accepted, header, valuesOrRefusal, decodeForm, decodeSelection, decodeType, decodeTyped, decodeWay, decode, openOf, openPart}
 use Rattle.protocol.specs.Decode as Decode'
 use Rattle.protocol.specs.Answer.{naturalAt, formOf, valuesOf}
 use Rattle.protocol.specs.Encode.{Encoded, encoded, framed, afterFields, encodeForm, encodeSelection, encodeTyped, encodeValues, encode, settledValues}
@@ -28,10 +26,10 @@ use Rattle.protocol.specs.declared.Combinations.{Combinations}
 use Rattle.protocol.specs.declared.Message.{Message}
 use Rattle.protocol.specs.declared.Message.the-variants as Message'
 use Rattle.protocol.specs.declared.Way.{Way}
-use Rattle.protocol.proofs.Tests.{which, and-left, and-right}
-use Rattle.protocol.proofs.FormTrip.{Read, was-read, form-written, Shaped, FormRead, form-read}
+use Rattle.protocol.proofs.Tests.{and-left, and-right}
+use Rattle.protocol.proofs.FormTrip.{was-read, form-written, Shaped, form-read}
 use Rattle.protocol.proofs.Selection.{headed as head, typed, long-enough}
-use Rattle.protocol.proofs.SelectionTrip.{Narrow, narrow-read, narrow-written, narrow-widths, Fitting, Leads, leads}
+use Rattle.protocol.proofs.SelectionTrip.{narrow-read, narrow-written, narrow-widths, Fitting, Leads, leads}
 
 -- ---- what was read is written back
 

@@ -1,25 +1,24 @@
 -- The selectors: reading and writing choose the same form.
 use Prim.Native.Nat.{ℕ, zero, suc, _+_, _-_, _%_, _^_, _≤_, _<_}
-use native.Mathlib.Nat.{add-zero, add-suc, add-assoc}
+use native.Mathlib.Nat.{add-zero}
 use native.Mathlib.Omega.{arith}
 use mathlib.Core.Path.{_≡_, refl, sym, _∙_, ap}
-use mathlib.Core.Bool.{Bool, true, false, cond, _&&_}
+use mathlib.Core.Bool.{Bool, true, false, cond}
 use mathlib.Core.List.{List, [], _∷_, _++_}
 use mathlib.Core.Logic.{⊎-elim}
-use mathlib.Core.Option.{Option, none, some}
-use borrow.Author.Tests.{eqb-true, eq-eqb, ltb-true}
+use mathlib.Core.Option.{some}
+use borrow.Author.Tests.{eqb-true, ltb-true}
 use lib.Dec.{eqb, ltb}
-use lib.ListN.{length, getD}
+use lib.ListN.{getD}
 use Rattle.protocol.specs.Number.{littleEndian}
 use Rattle.protocol.specs.Rule.{Rule, oneOf}
 use Rattle.protocol.specs.Properties.{carries}
-use Rattle.protocol.specs.Field.{Field, number, highFirst, signed, float, fixed, Value, natural, integer, real, width, widths, Fields, values, readField, readFields}
+use Rattle.protocol.specs.Field.{Field, number, highFirst, signed, float, fixed, Value, natural, integer, real, widths, values, readField, readFields}
 use Rattle.protocol.specs.Form
-use Rattle.protocol.specs.Form.{Form, Layout, layout, code}
+use Rattle.protocol.specs.Form.{Form, layout, code}
 use Rattle.protocol.specs.Types.{Selection, always, select, MessageType, Row, payload, types, typeOf, hubProperties, hubActions, hubAlerts, hubAttachedIo, portInformation, portModeInformation, virtualPortSetup}
-use Rattle.protocol.specs.Decode.{header}
 use Rattle.protocol.specs.Answer.{naturalAt}
-use Rattle.protocol.specs.Encode.{lowFirst, holds, fieldBytes, Written, wrote, writeFields}
+use Rattle.protocol.specs.Encode.{lowFirst, holds, fieldBytes, wrote, writeFields}
 use Rattle.protocol.specs.declared.Way.{Way}
 use Rattle.protocol.specs.declared.Way.the-variants.{Down, Up}
 use Rattle.protocol.proofs.Tests.{which, and-left}

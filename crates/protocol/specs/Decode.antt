@@ -1,12 +1,12 @@
 -- Reading one message: refusals 1 to 7 in the order of document 01, or the form, its values and its open bytes.
 use Prim.Native.Nat.{ℕ, _+_}
-use mathlib.Core.Bool.{Bool, true, false, cond, _||_}
-use mathlib.Core.List.{List, [], _∷_}
+use mathlib.Core.Bool.{cond}
+use mathlib.Core.List.{List, []}
 use mathlib.Core.Option.{Option, none, some}
 use lib.Dec.{eqb, leb, ltb}
 use lib.ListN.{length, getD}
 use Rattle.protocol.specs.Field.{Value, Fields, outside, values, widths, readFields, andThen}
-use Rattle.protocol.specs.Form.{Form, Layout, layout, fits, readRest, openBytes}
+use Rattle.protocol.specs.Form.{Form, layout, fits, readRest, openBytes}
 use Rattle.protocol.specs.Types.{Selection, always, select, MessageType, types, typeOf}
 use Rattle.protocol.specs.declared.Way.{Way}
 

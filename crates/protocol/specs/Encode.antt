@@ -1,16 +1,16 @@
 -- Writing one message, over the layouts that reading uses: refusals 5, 6 and 7 in the order of document 01, or the bytes.
 -- Refusal 8 is the function's own, by the length of its output.
 use Prim.Native.Nat.{ℕ, zero, suc, _+_, _*_, _-_, _/_, _%_, _^_}
-use mathlib.Core.Bool.{Bool, true, false, cond, _&&_}
+use mathlib.Core.Bool.{Bool, false, cond, _&&_}
 use mathlib.Core.List.{List, [], _∷_, _++_, reverse}
 use mathlib.Core.Option.{Option, none, some}
-use lib.Dec.{eqb, ltb, leb}
+use lib.Dec.{eqb, ltb}
 use lib.IntN.{ℤ, pos, negsuc}
-use lib.Ieee.{Float, binary32, toBits}
+use lib.Ieee.{binary32, toBits}
 use lib.Ieee as Ieee
 use lib.ListN.{length, take, drop, replicate}
 use Rattle.protocol.specs.Number.{isFinite}
-use Rattle.protocol.specs.Rule.{Rule, any, between}
+use Rattle.protocol.specs.Rule.{any, between}
 use Rattle.protocol.specs.Field.{Field, number, highFirst, signed, float, fixed, Value, natural, integer, real, width, widths}
 use Rattle.protocol.specs.Form.{Form, code, sameForm, Rest, nothing, openRun, words, Layout, layout}
 use Rattle.protocol.specs.Types.{Selection, always, select, MessageType, types, typeOf}

@@ -3,9 +3,9 @@ use Prim.Native.Nat.{ℕ}
 use mathlib.Core.Path.{_≡_}
 use mathlib.Core.List.{List, [], _∷_, map}
 use lib.Ieee.{fin}
-use lib.IntN.{pos, negsuc}
-use mathlib.Core.Bool.{true, false}
-use Rattle.protocol.specs.Field.{Value, natural, real}
+use lib.IntN.{pos}
+use mathlib.Core.Bool.{false}
+use Rattle.protocol.specs.Field.{natural, real}
 use Rattle.protocol.specs.Form
 use Rattle.protocol.specs.Decode.{Answer, refused, accepted, decode}
 use Rattle.protocol.specs.declared.Way.{Way}

@@ -1,12 +1,12 @@
 -- The forms of document 01's table, as data: the fields after the header, left to right, selectors among them, and what follows them.
 use Prim.Native.Nat.{ℕ, zero, suc, _+_, _*_, _-_, _/_, _%_}
-use mathlib.Core.Bool.{Bool, true, false, cond, _&&_}
-use mathlib.Core.List.{List, [], _∷_, _++_, map}
+use mathlib.Core.Bool.{Bool, cond, _&&_}
+use mathlib.Core.List.{List, [], _∷_}
 use lib.Dec.{leb, ltb, eqb}
 use lib.ListN.{length, drop}
 use Rattle.protocol.specs.Number.{littleEndian}
 use Rattle.protocol.specs.Rule.{Rule, any, upTo, between, oneOf, either}
-use Rattle.protocol.specs.Field.{Field, number, highFirst, signed, float, fixed, Value, natural, Fields, values, widths, readFields, andThen}
+use Rattle.protocol.specs.Field.{Field, number, highFirst, signed, float, fixed, Value, natural, Fields, values}
 use Rattle.protocol.specs.Properties.{longest, greatest}
 
 -- The forms. Where a selector decides a bound, it is an argument.

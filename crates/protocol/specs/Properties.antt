@@ -1,6 +1,6 @@
 -- Hub properties (0x01): which operation each permits, which way an operation goes, and the bounds of the payloads.
 use Prim.Native.Nat.{ℕ}
-use mathlib.Core.Bool.{Bool, true, false, cond, _&&_}
+use mathlib.Core.Bool.{cond, _&&_}
 use mathlib.Core.List.{List, [], _∷_}
 use lib.Dec.{eqb}
 use Rattle.protocol.specs.Rule.{Rule, between, oneOf}

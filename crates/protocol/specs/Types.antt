@@ -1,7 +1,7 @@
 -- The message types of document 01's table: which way each goes, and how its selectors choose the form.
 -- Selectors stand by their offset after the header, so that place 3 is offset 0.
-use Prim.Native.Nat.{ℕ, _+_}
-use mathlib.Core.Bool.{Bool, true, false, cond, _&&_}
+use Prim.Native.Nat.{ℕ}
+use mathlib.Core.Bool.{cond}
 use mathlib.Core.List.{List, [], _∷_}
 use mathlib.Core.Option.{Option, none, some}
 use lib.Dec.{eqb}

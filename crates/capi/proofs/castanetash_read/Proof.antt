@@ -10,44 +10,29 @@ use Rattle.capi.specs.Cells.{cellsAfter, readCells}
 use borrow.Author.Needs.{needs}
 use Rattle.capi.proofs.castanetash_read.Statement.{statement}
 use Rattle.capi.proofs.castanetash_read.Tie as tie
-use Rattle.capi.proofs.castanetash_read.Reads as reads
-use Rattle.capi.proofs.castanetash_read.Lts as lts
-use Rattle.capi.proofs.cells_of.Reads as cells-of-reads
-use Rattle.capi.proofs.put.Reads as put-reads
-use Rattle.capi.proofs.way_of.Reads as way-of-reads
-use Rattle.codec.proofs.open_part.Reads as open-part-reads
-use Rattle.codec.proofs.read.Reads as read-reads
 
--- src/lib.rt:71:9
 returns : tie.Need-returns
 unfolding cellsAfter readCells
 returns c = (rw (lt-ltb _ _ (c .if1 .taken)), rw (lt-ltb _ _ (c .if1 .taken)))
 
--- src/lib.rt:73:9
 way-of-requires : tie.Need-way-of-requires
 way-of-requires c κs = search needs
 
--- src/lib.rt:74:9
 read-requires : tie.Need-read-requires
 read-requires c κs = search needs
 
--- src/lib.rt:75:16
 open-part-requires : tie.Need-open-part-requires
 open-part-requires c κs = search needs
 
--- src/lib.rt:76:16
 cells-of-requires : tie.Need-cells-of-requires
 cells-of-requires c κs = rw (c .before .open-part .ensures) (open-short _ _)
 
--- src/lib.rt:76:5
 put-requires : tie.Need-put-requires
 put-requires c κs = (search needs, ap length (c .cells-of .ensures) ∙ twenty (length (c .before .before .before .before .before .before .before .before .args .message .now)) (length (c .before .before .open-part .result .now)) (answerOf (c .before .before .before .read .result)))
 
--- src/lib.rt:66:1
 same-length : tie.Need-same-length
 same-length c = search needs
 
--- src/lib.rt:66:1
 returns-2 : tie.Need-returns-2
 unfolding cellsAfter readCells
 returns-2 c =

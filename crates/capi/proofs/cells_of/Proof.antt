@@ -1,56 +1,40 @@
 use borrow.Author.Needs.{needs}
 use Rattle.capi.proofs.cells_of.Statement.{statement}
 use Rattle.capi.proofs.cells_of.Tie as tie
-use Rattle.capi.proofs.cells_of.Reads as reads
-use Rattle.capi.proofs.cells_of.Lts as lts
-use Rattle.capi.proofs.message.message_cells.Reads as message-cells-reads
-use Rattle.capi.proofs.open_start.Reads as open-start-reads
 
--- src/lib.rt:36:28
 enum-known-reading : tie.Need-enum-known-reading
 enum-known-reading c = search needs
 
--- src/lib.rt:38:24
 cast-cells : tie.Need-cast-cells
 cast-cells c = search needs
 
--- src/lib.rt:38:13
 array-write-cells : tie.Need-array-write-cells
 array-write-cells c = search needs
 
--- src/lib.rt:39:24
 cast-cells-2 : tie.Need-cast-cells-2
 cast-cells-2 c = search needs
 
--- src/lib.rt:39:13
 array-write-cells-2 : tie.Need-array-write-cells-2
 array-write-cells-2 c = search needs
 
--- src/lib.rt:42:27
 enum-known-reading-2 : tie.Need-enum-known-reading-2
 enum-known-reading-2 c = search needs
 
--- src/lib.rt:43:29
 message-cells-requires : tie.Need-message-cells-requires
 message-cells-requires c κs = search needs
 
--- src/lib.rt:44:24
 open-start-requires : tie.Need-open-start-requires
 open-start-requires c κs = search needs
 
--- src/lib.rt:44:13
 array-write-cells-3 : tie.Need-array-write-cells-3
 array-write-cells-3 c = search needs
 
--- src/lib.rt:45:13
 array-write-cells-4 : tie.Need-array-write-cells-4
 array-write-cells-4 c = search needs
 
--- src/lib.rt:31:1
 returns : tie.Need-returns
 returns c = rw (c .before .reading .given .1)
 
--- src/lib.rt:31:1
 returns-2 : tie.Need-returns-2
 returns-2 c = rw (c .before .before .before .reading2 .given .1, c .before .message-cells .ensures, c .open-start .ensures)
 

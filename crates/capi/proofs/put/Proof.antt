@@ -9,8 +9,6 @@ use borrow.Author.Needs.{needs}
 use lib.Seq.{paste, paste-suc, length-paste, take-all}
 use Rattle.capi.proofs.put.Statement.{statement}
 use Rattle.capi.proofs.put.Tie as tie
-use Rattle.capi.proofs.put.Reads as reads
-use Rattle.capi.proofs.put.Lts as lts
 
 abbrev Inv-loop : tie.InvT-loop
 Inv-loop cells₀ from i₀ cells i = (i ≤ 20) × (cells ≡ paste cells₀ 0 from i)
@@ -29,46 +27,36 @@ whole d s i e inv h pre =
     let at : i ≡ 20 = omega arith in
     inv .1 ∙ rw (at, take-all 20 s (omega arith))
 
--- src/lib.rt:79:5
 loop-holds : tie.Need-loop-holds Inv-loop μ-loop
 loop-holds c = (search needs, refl)
 
--- src/lib.rt:80:20
 mul-cells : tie.Need-mul-cells Inv-loop μ-loop
 mul-cells c = search needs
 
--- src/lib.rt:80:20
 array-read-cells : tie.Need-array-read-cells Inv-loop μ-loop
 array-read-cells c = search needs
 
--- src/lib.rt:80:9
 mul-cells-2 : tie.Need-mul-cells-2 Inv-loop μ-loop
 mul-cells-2 c = search needs
 
--- src/lib.rt:80:9
 slice-write-cells : tie.Need-slice-write-cells Inv-loop μ-loop
 slice-write-cells c = omega (arith, kept (c .before .before .args .cells .now) (c .before .before .args .t2) (c .before .loop .i) (c .before .loop .cells) (c .before .loop .inv) (c .before .before .pre))
 
--- src/lib.rt:81:9
 add-i : tie.Need-add-i Inv-loop μ-loop
 add-i c = search needs
 
--- src/lib.rt:79:5
 loop-less : tie.Need-loop-less Inv-loop μ-loop
 loop-less c = search needs
 
--- src/lib.rt:79:5
 loop-again : tie.Need-loop-again Inv-loop μ-loop
 loop-again c =
     let i = c .before .loop .i in
     let h : i < 20 = c .loop-test .taken in
     (search needs, rw (c .before .loop .inv .1, add-one) (turn (c .before .before .args .cells .now) (c .before .before .args .t2) i (c .before .before .pre) h))
 
--- src/lib.rt:74:1
 same-length : tie.Need-same-length Inv-loop μ-loop
 same-length c = kept (c .before .before .args .cells .now) (c .before .before .args .t2) (c .before .loop .i) (c .before .loop .cells) (c .before .loop .inv) (c .before .before .pre)
 
--- src/lib.rt:74:1
 returns : tie.Need-returns Inv-loop μ-loop
 returns c = whole (c .before .before .args .cells .now) (c .before .before .args .t2) (c .before .loop .i) (c .before .loop .cells) (c .before .loop .inv) (c .loop-test .left) (c .before .before .pre)
 

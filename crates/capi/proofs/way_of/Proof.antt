@@ -1,14 +1,10 @@
 use borrow.Author.Tests.{eq-eqb, ne-eqb}
 use Rattle.capi.proofs.way_of.Statement.{statement}
 use Rattle.capi.proofs.way_of.Tie as tie
-use Rattle.capi.proofs.way_of.Reads as reads
-use Rattle.capi.proofs.way_of.Lts as lts
 
--- src/lib.rt:18:1
 returns : tie.Need-returns
 returns c = rw (eq-eqb _ _ (c .if1 .taken))
 
--- src/lib.rt:18:1
 returns-2 : tie.Need-returns-2
 returns-2 c = rw (ne-eqb _ _ (c .if1 .left))
 

@@ -15,8 +15,6 @@ use Rattle.protocol.specs.Answer.{formOf, valuesOf}
 use borrow.Author.Needs.{needs}
 use Rattle.codec.proofs.open_start.Statement.{statement}
 use Rattle.codec.proofs.open_start.Tie as tie
-use Rattle.codec.proofs.open_start.Reads as reads
-use Rattle.codec.proofs.open_start.Lts as lts
 
 nothing-left : (s : List ℕ) (n : ℕ) → length s ≡ n → [] ≡ drop n s
 nothing-left s n e = sym (drop-of-length-le s (le-of-eq e))
@@ -60,34 +58,27 @@ no-open (Message'.InputFormat p m d n) t s n′ e = nothing-left s n′ e
 no-open (Message'.VirtualDisconnect p) t s n′ e = nothing-left s n′ e
 no-open (Message'.VirtualConnect a b) t s n′ e = nothing-left s n′ e
 
--- src/lib.rt:140:14
 enum-told : tie.Need-enum-told
 enum-told c = search needs
 
--- src/lib.rt:145:14
 enum-told-2 : tie.Need-enum-told-2
 enum-told-2 c = search needs
 
--- src/lib.rt:146:43
 enum-told-3 : tie.Need-enum-told-3
 enum-told-3 c = search needs
 
--- src/lib.rt:133:1
 returns : tie.Need-returns
 unfolding layout
 returns c = λ s e. rw (c .enum-told .given .1)
 
--- src/lib.rt:133:1
 returns-2 : tie.Need-returns-2
 unfolding layout
 returns-2 c = λ s e. rw (c .enum-told2 .given .1)
 
--- src/lib.rt:133:1
 returns-3 : tie.Need-returns-3
 unfolding layout
 returns-3 c = λ s e. rw (c .enum-told3 .given .1)
 
--- src/lib.rt:133:1
 returns-4 : tie.Need-returns-4
 returns-4 c = λ s e. no-open (c .before .args .m) (c .match .keys4) s (c .before .args .size) e
 

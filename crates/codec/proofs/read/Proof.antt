@@ -6,92 +6,68 @@ use borrow.Author.Tests.{lt-ltb, le-ltb, eq-eqb, le-leb, lt-leb, ne-eqb}
 use borrow.Author.Needs.{needs}
 use Rattle.codec.proofs.read.Statement.{statement}
 use Rattle.codec.proofs.read.Tie as tie
-use Rattle.codec.proofs.read.Reads as reads
-use Rattle.codec.proofs.read.Lts as lts
-use Rattle.codec.proofs.read_down.Reads as read-down-reads
-use Rattle.codec.proofs.read_up.Reads as read-up-reads
-use Rattle.codec.proofs.refusal.refuse.Reads as refuse-reads
 
--- src/lib.rt:48:9
 refuse-requires : tie.Need-refuse-requires
 refuse-requires c κs = search needs
 
--- src/lib.rt:48:9
 returns : tie.Need-returns
 unfolding decode
 returns c = simp (c .refuse .ensures, eq-eqb _ _ (c .before .if1 .taken))
 
--- src/lib.rt:50:16
 shared-slice-read-size : tie.Need-shared-slice-read-size
 shared-slice-read-size c = search needs
 
--- src/lib.rt:52:9
 refuse-requires-2 : tie.Need-refuse-requires-2
 refuse-requires-2 c κs = search needs
 
--- src/lib.rt:52:9
 returns-2 : tie.Need-returns-2
 unfolding decode
 returns-2 c = simp (c .refuse2 .ensures, le-leb _ _ (c .before .if2 .taken), ne-eqb _ _ (c .before .before .before .if1 .left))
 
--- src/lib.rt:54:8
 cast-if3 : tie.Need-cast-if3
 cast-if3 c = search needs
 
--- src/lib.rt:55:9
 refuse-requires-3 : tie.Need-refuse-requires-3
 refuse-requires-3 c κs = search needs
 
--- src/lib.rt:55:9
 returns-3 : tie.Need-returns-3
 unfolding decode
 returns-3 c = simp (c .refuse3 .ensures, ne-eqb _ _ (c .before .if3 .taken), lt-leb _ _ (c .before .before .if2 .left), ne-eqb _ _ (c .before .before .before .before .if1 .left))
 
--- src/lib.rt:58:9
 refuse-requires-4 : tie.Need-refuse-requires-4
 refuse-requires-4 c κs = search needs
 
--- src/lib.rt:58:9
 returns-4 : tie.Need-returns-4
 unfolding decode
 returns-4 c = simp (c .refuse4 .ensures, lt-ltb _ _ (c .before .if4 .taken), eq-eqb _ _ (c .before .before .if3 .left), lt-leb _ _ (c .before .before .before .if2 .left), ne-eqb _ _ (c .before .before .before .before .before .if1 .left))
 
--- src/lib.rt:60:8
 shared-slice-read-if5 : tie.Need-shared-slice-read-if5
 shared-slice-read-if5 c = search needs
 
--- src/lib.rt:61:9
 refuse-requires-5 : tie.Need-refuse-requires-5
 refuse-requires-5 c κs = search needs
 
--- src/lib.rt:61:9
 returns-5 : tie.Need-returns-5
 unfolding decode
 returns-5 c = simp (c .refuse5 .ensures, ne-eqb _ _ (c .before .if5 .taken), le-ltb _ _ (c .before .before .before .if4 .left), eq-eqb _ _ (c .before .before .before .before .if3 .left), lt-leb _ _ (c .before .before .before .before .before .if2 .left), ne-eqb _ _ (c .before .before .before .before .before .before .before .if1 .left))
 
--- src/lib.rt:64:22
 enum-told : tie.Need-enum-told
 enum-told c = search needs
 
--- src/lib.rt:64:22
 read-down-requires : tie.Need-read-down-requires
 read-down-requires c κs = search needs
 
--- src/lib.rt:65:20
 enum-told-2 : tie.Need-enum-told-2
 enum-told-2 c = search needs
 
--- src/lib.rt:65:20
 read-up-requires : tie.Need-read-up-requires
 read-up-requires c κs = search needs
 
--- src/lib.rt:44:1
 returns-6 : tie.Need-returns-6
 returns-6 c = c .read-down .ensures ∙ ap (λ (w : Way). decodeWay w (c .before .before .before .before .before .before .before .before .before .before .before .args .message .now)) (sym (c .before .enum-told .given .1))
     ∙ sym
     (headed (c .before .before .before .before .before .before .before .before .before .before .before .args .way) (c .before .before .before .before .before .before .before .before .before .before .before .args .message .now) (ne-eqb _ _ (c .before .before .before .before .before .before .before .before .before .if1 .left)) (lt-leb _ _ (c .before .before .before .before .before .before .before .if2 .left)) (eq-eqb _ _ (c .before .before .before .before .before .before .if3 .left)) (le-ltb _ _ (c .before .before .before .before .before .if4 .left)) (eq-eqb _ _ (c .before .before .before .if5 .left)))
 
--- src/lib.rt:44:1
 returns-7 : tie.Need-returns-7
 returns-7 c = c .read-up .ensures ∙ ap (λ (w : Way). decodeWay w (c .before .before .before .before .before .before .before .before .before .before .before .args .message .now)) (sym (c .before .enum-told2 .given .1))
     ∙ sym

@@ -7,119 +7,83 @@ use Rattle.protocol.proofs.Selection.{typed, long-enough}
 use borrow.Author.Needs.{needs}
 use Rattle.codec.proofs.read_down.Statement.{statement}
 use Rattle.codec.proofs.read_down.Tie as tie
-use Rattle.codec.proofs.read_down.Reads as reads
-use Rattle.codec.proofs.read_down.Lts as lts
-use Rattle.codec.proofs.firmware.go_into_boot_mode.Reads as go-into-boot-mode-reads
-use Rattle.codec.proofs.firmware.lock_memory.Reads as lock-memory-reads
-use Rattle.codec.proofs.firmware.lock_status_request.Reads as lock-status-request-reads
-use Rattle.codec.proofs.hub.hub_actions_down.Reads as hub-actions-down-reads
-use Rattle.codec.proofs.hub.hub_alerts_down.Reads as hub-alerts-down-reads
-use Rattle.codec.proofs.port.input_format_setup.Reads as input-format-setup-reads
-use Rattle.codec.proofs.port.mode_information_request.Reads as mode-information-request-reads
-use Rattle.codec.proofs.port.port_information_request.Reads as port-information-request-reads
-use Rattle.codec.proofs.port.virtual_port_setup.Reads as virtual-port-setup-reads
-use Rattle.codec.proofs.property.hub_properties.Reads as hub-properties-reads
-use Rattle.codec.proofs.refusal.refuse.Reads as refuse-reads
 
--- src/lib.rt:72:16
 shared-slice-read-code : tie.Need-shared-slice-read-code
 shared-slice-read-code c = search needs
 
--- src/lib.rt:74:17
 hub-properties-requires : tie.Need-hub-properties-requires
 hub-properties-requires c κs = search needs
 
--- src/lib.rt:75:17
 hub-actions-down-requires : tie.Need-hub-actions-down-requires
 hub-actions-down-requires c κs = search needs
 
--- src/lib.rt:76:17
 hub-alerts-down-requires : tie.Need-hub-alerts-down-requires
 hub-alerts-down-requires c κs = search needs
 
--- src/lib.rt:77:17
 go-into-boot-mode-requires : tie.Need-go-into-boot-mode-requires
 go-into-boot-mode-requires c κs = search needs
 
--- src/lib.rt:78:17
 lock-memory-requires : tie.Need-lock-memory-requires
 lock-memory-requires c κs = search needs
 
--- src/lib.rt:79:17
 lock-status-request-requires : tie.Need-lock-status-request-requires
 lock-status-request-requires c κs = search needs
 
--- src/lib.rt:80:17
 port-information-request-requires : tie.Need-port-information-request-requires
 port-information-request-requires c κs = search needs
 
--- src/lib.rt:81:17
 mode-information-request-requires : tie.Need-mode-information-request-requires
 mode-information-request-requires c κs = search needs
 
--- src/lib.rt:82:17
 input-format-setup-requires : tie.Need-input-format-setup-requires
 input-format-setup-requires c κs = search needs
 
--- src/lib.rt:83:17
 virtual-port-setup-requires : tie.Need-virtual-port-setup-requires
 virtual-port-setup-requires c κs = search needs
 
--- src/lib.rt:84:14
 refuse-requires : tie.Need-refuse-requires
 refuse-requires c κs = search needs
 
--- src/lib.rt:68:1
 returns : tie.Need-returns
 unfolding types
 returns c = c .hub-properties .ensures ∙ sym (typed Down _ 1 (c .before .match .keys1))
 
--- src/lib.rt:68:1
 returns-2 : tie.Need-returns-2
 unfolding types
 returns-2 c = c .hub-actions-down .ensures ∙ sym (typed Down _ 2 (c .before .match .keys2))
 
--- src/lib.rt:68:1
 returns-3 : tie.Need-returns-3
 unfolding types
 returns-3 c = c .hub-alerts-down .ensures ∙ sym (typed Down _ 3 (c .before .match .keys3))
 
--- src/lib.rt:68:1
 returns-4 : tie.Need-returns-4
 unfolding types
 returns-4 c = c .go-into-boot-mode .ensures ∙ sym (typed Down _ 16 (c .before .match .keys4) ∙ long-enough _ _ (c .before .before .before .before .pre))
 
--- src/lib.rt:68:1
 returns-5 : tie.Need-returns-5
 unfolding types
 returns-5 c = c .lock-memory .ensures ∙ sym (typed Down _ 17 (c .before .match .keys5) ∙ long-enough _ _ (c .before .before .before .before .pre))
 
--- src/lib.rt:68:1
 returns-6 : tie.Need-returns-6
 unfolding types
 returns-6 c = c .lock-status-request .ensures ∙ sym (typed Down _ 18 (c .before .match .keys6) ∙ long-enough _ _ (c .before .before .before .before .pre))
 
--- src/lib.rt:68:1
 returns-7 : tie.Need-returns-7
 unfolding types
 returns-7 c = c .port-information-request .ensures ∙ sym (typed Down _ 33 (c .before .match .keys7) ∙ long-enough _ _ (c .before .before .before .before .pre))
 
--- src/lib.rt:68:1
 returns-8 : tie.Need-returns-8
 unfolding types
 returns-8 c = c .mode-information-request .ensures ∙ sym (typed Down _ 34 (c .before .match .keys8) ∙ long-enough _ _ (c .before .before .before .before .pre))
 
--- src/lib.rt:68:1
 returns-9 : tie.Need-returns-9
 unfolding types
 returns-9 c = c .input-format-setup .ensures ∙ sym (typed Down _ 65 (c .before .match .keys9) ∙ long-enough _ _ (c .before .before .before .before .pre))
 
--- src/lib.rt:68:1
 returns-10 : tie.Need-returns-10
 unfolding types
 returns-10 c = c .virtual-port-setup .ensures ∙ sym (typed Down _ 97 (c .before .match .keys10))
 
--- src/lib.rt:68:1
 returns-11 : tie.Need-returns-11
 unfolding decodeWay types
 returns-11 c = simp (c .refuse .ensures, ne-eqb _ _ (c .before .match .rest .0 .0 .0 .0 .0 .0 .0 .0 .0 .1), ne-eqb _ _ (c .before .match .rest .0 .0 .0 .0 .0 .0 .0 .0 .1), ne-eqb _ _ (c .before .match .rest .0 .0 .0 .0 .0 .0 .0 .1), ne-eqb _ _ (c .before .match .rest .0 .0 .0 .0 .0 .0 .1), ne-eqb _ _ (c .before .match .rest .0 .0 .0 .0 .0 .1), ne-eqb _ _ (c .before .match .rest .0 .0 .0 .0 .1), ne-eqb _ _ (c .before .match .rest .0 .0 .0 .1), ne-eqb _ _ (c .before .match .rest .0 .0 .1), ne-eqb _ _ (c .before .match .rest .0 .1), ne-eqb _ _ (c .before .match .rest .1))

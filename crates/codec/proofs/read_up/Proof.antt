@@ -7,119 +7,83 @@ use Rattle.protocol.proofs.Selection.{typed, long-enough}
 use borrow.Author.Needs.{needs}
 use Rattle.codec.proofs.read_up.Statement.{statement}
 use Rattle.codec.proofs.read_up.Tie as tie
-use Rattle.codec.proofs.read_up.Reads as reads
-use Rattle.codec.proofs.read_up.Lts as lts
-use Rattle.codec.proofs.firmware.lock_status.Reads as lock-status-reads
-use Rattle.codec.proofs.hub.generic_error.Reads as generic-error-reads
-use Rattle.codec.proofs.hub.hub_actions_up.Reads as hub-actions-up-reads
-use Rattle.codec.proofs.hub.hub_alerts_up.Reads as hub-alerts-up-reads
-use Rattle.codec.proofs.mode.port_mode_information.Reads as port-mode-information-reads
-use Rattle.codec.proofs.port.hub_attached_io.Reads as hub-attached-io-reads
-use Rattle.codec.proofs.port.input_format.Reads as input-format-reads
-use Rattle.codec.proofs.port.port_information.Reads as port-information-reads
-use Rattle.codec.proofs.port.port_value.Reads as port-value-reads
-use Rattle.codec.proofs.property.hub_properties.Reads as hub-properties-reads
-use Rattle.codec.proofs.refusal.refuse.Reads as refuse-reads
 
--- src/lib.rt:93:16
 shared-slice-read-code : tie.Need-shared-slice-read-code
 shared-slice-read-code c = search needs
 
--- src/lib.rt:95:17
 hub-properties-requires : tie.Need-hub-properties-requires
 hub-properties-requires c κs = search needs
 
--- src/lib.rt:96:17
 hub-actions-up-requires : tie.Need-hub-actions-up-requires
 hub-actions-up-requires c κs = search needs
 
--- src/lib.rt:97:17
 hub-alerts-up-requires : tie.Need-hub-alerts-up-requires
 hub-alerts-up-requires c κs = search needs
 
--- src/lib.rt:98:17
 hub-attached-io-requires : tie.Need-hub-attached-io-requires
 hub-attached-io-requires c κs = search needs
 
--- src/lib.rt:99:17
 generic-error-requires : tie.Need-generic-error-requires
 generic-error-requires c κs = search needs
 
--- src/lib.rt:100:17
 lock-status-requires : tie.Need-lock-status-requires
 lock-status-requires c κs = search needs
 
--- src/lib.rt:101:17
 port-information-requires : tie.Need-port-information-requires
 port-information-requires c κs = search needs
 
--- src/lib.rt:102:17
 port-mode-information-requires : tie.Need-port-mode-information-requires
 port-mode-information-requires c κs = search needs
 
--- src/lib.rt:103:17
 port-value-requires : tie.Need-port-value-requires
 port-value-requires c κs = search needs
 
--- src/lib.rt:104:17
 input-format-requires : tie.Need-input-format-requires
 input-format-requires c κs = search needs
 
--- src/lib.rt:105:14
 refuse-requires : tie.Need-refuse-requires
 refuse-requires c κs = search needs
 
--- src/lib.rt:89:1
 returns : tie.Need-returns
 unfolding types
 returns c = c .hub-properties .ensures ∙ sym (typed Up _ 1 (c .before .match .keys1))
 
--- src/lib.rt:89:1
 returns-2 : tie.Need-returns-2
 unfolding types
 returns-2 c = c .hub-actions-up .ensures ∙ sym (typed Up _ 2 (c .before .match .keys2))
 
--- src/lib.rt:89:1
 returns-3 : tie.Need-returns-3
 unfolding types
 returns-3 c = c .hub-alerts-up .ensures ∙ sym (typed Up _ 3 (c .before .match .keys3))
 
--- src/lib.rt:89:1
 returns-4 : tie.Need-returns-4
 unfolding types
 returns-4 c = c .hub-attached-io .ensures ∙ sym (typed Up _ 4 (c .before .match .keys4))
 
--- src/lib.rt:89:1
 returns-5 : tie.Need-returns-5
 unfolding types
 returns-5 c = c .generic-error .ensures ∙ sym (typed Up _ 5 (c .before .match .keys5) ∙ long-enough _ _ (c .before .before .before .before .pre))
 
--- src/lib.rt:89:1
 returns-6 : tie.Need-returns-6
 unfolding types
 returns-6 c = c .lock-status .ensures ∙ sym (typed Up _ 19 (c .before .match .keys6) ∙ long-enough _ _ (c .before .before .before .before .pre))
 
--- src/lib.rt:89:1
 returns-7 : tie.Need-returns-7
 unfolding types
 returns-7 c = c .port-information .ensures ∙ sym (typed Up _ 67 (c .before .match .keys7))
 
--- src/lib.rt:89:1
 returns-8 : tie.Need-returns-8
 unfolding types
 returns-8 c = c .port-mode-information .ensures ∙ sym (typed Up _ 68 (c .before .match .keys8))
 
--- src/lib.rt:89:1
 returns-9 : tie.Need-returns-9
 unfolding types
 returns-9 c = c .port-value .ensures ∙ sym (typed Up _ 69 (c .before .match .keys9) ∙ long-enough _ _ (c .before .before .before .before .pre))
 
--- src/lib.rt:89:1
 returns-10 : tie.Need-returns-10
 unfolding types
 returns-10 c = c .input-format .ensures ∙ sym (typed Up _ 71 (c .before .match .keys10) ∙ long-enough _ _ (c .before .before .before .before .pre))
 
--- src/lib.rt:89:1
 returns-11 : tie.Need-returns-11
 unfolding decodeWay types
 returns-11 c = simp (c .refuse .ensures, ne-eqb _ _ (c .before .match .rest .0 .0 .0 .0 .0 .0 .0 .0 .0 .1), ne-eqb _ _ (c .before .match .rest .0 .0 .0 .0 .0 .0 .0 .0 .1), ne-eqb _ _ (c .before .match .rest .0 .0 .0 .0 .0 .0 .0 .1), ne-eqb _ _ (c .before .match .rest .0 .0 .0 .0 .0 .0 .1), ne-eqb _ _ (c .before .match .rest .0 .0 .0 .0 .0 .1), ne-eqb _ _ (c .before .match .rest .0 .0 .0 .0 .1), ne-eqb _ _ (c .before .match .rest .0 .0 .0 .1), ne-eqb _ _ (c .before .match .rest .0 .0 .1), ne-eqb _ _ (c .before .match .rest .0 .1), ne-eqb _ _ (c .before .match .rest .1))

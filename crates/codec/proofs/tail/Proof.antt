@@ -7,30 +7,22 @@ use mathlib.Core.Path.{sym}
 use borrow.Author.Needs.{needs}
 use Rattle.codec.proofs.tail.Statement.{statement}
 use Rattle.codec.proofs.tail.Tie as tie
-use Rattle.codec.proofs.tail.Reads as reads
-use Rattle.codec.proofs.tail.Lts as lts
 
--- src/lib.rt:128:24
 sub-result : tie.Need-sub-result
 sub-result c = search needs
 
--- src/lib.rt:128:24
 part-result-start : tie.Need-part-result-start
 part-result-start c = search needs
 
--- src/lib.rt:128:24
 part-result-end : tie.Need-part-result-end
 part-result-end c = search needs
 
--- src/lib.rt:128:42
 slice-aggregate-result : tie.Need-slice-aggregate-result
 slice-aggregate-result c = search needs
 
--- src/lib.rt:125:1
 returns : tie.Need-returns
 returns c = take-all (length (c .before .before .args .s .now) - c .before .before .args .at) (drop (c .before .before .args .at) (c .before .before .args .s .now)) (simp length-drop (omega arith))
 
--- src/lib.rt:125:1
 returns-2 : tie.Need-returns-2
 returns-2 c = sym (drop-of-length-le (c .before .before .args .s .now) {i = c .before .before .args .at} (omega arith))
 

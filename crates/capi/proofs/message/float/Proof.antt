@@ -6,22 +6,16 @@ use Rattle.protocol.proofs.Bits.{equal-no-nan, unequal-nan}
 use borrow.Author.Needs.{needs}
 use Rattle.capi.proofs.message.float.Statement.{statement}
 use Rattle.capi.proofs.message.float.Tie as tie
-use Rattle.capi.proofs.message.float.Reads as reads
-use Rattle.capi.proofs.message.float.Lts as lts
 
--- src/values.rt:33:9
 float-to-bits-result : tie.Need-float-to-bits-result
 float-to-bits-result c = equal-no-nan (c .before .args .x) (c .if1 .taken)
 
--- src/values.rt:33:9
 cast-result : tie.Need-cast-result
 cast-result c = record { fits = omega (arith, toBits-lt binary32 (c .before .args .x) (rw (c .before .good .0 .1) tt)) }
 
--- src/values.rt:29:1
 returns : tie.Need-returns
 returns c = search needs
 
--- src/values.rt:29:1
 returns-2 : tie.Need-returns-2
 returns-2 c = sym (unequal-nan (c .before .args .x) (c .if1 .left))
 

@@ -5,675 +5,505 @@ use Rattle.capi.proofs.Signed.{wider8}
 use borrow.Author.Needs.{needs}
 use Rattle.capi.proofs.message.message_cells.Statement.{statement}
 use Rattle.capi.proofs.message.message_cells.Tie as tie
-use Rattle.capi.proofs.message.message_cells.Reads as reads
-use Rattle.capi.proofs.message.message_cells.Lts as lts
-use Rattle.capi.proofs.message.float.Reads as float-reads
-use Rattle.capi.proofs.message.row.Reads as row-reads
-use Rattle.capi.proofs.message.signed.Reads as signed-reads
 
--- src/message.rt:65:13
 enum-known-m : tie.Need-enum-known-m
 enum-known-m c = search needs
 
--- src/message.rt:67:25
 cast-t84 : tie.Need-cast-t84
 cast-t84 c = search needs
 
--- src/message.rt:67:42
 cast-t85 : tie.Need-cast-t85
 cast-t85 c = search needs
 
--- src/message.rt:67:14
 row-requires : tie.Need-row-requires
 row-requires c κs = search needs
 
--- src/message.rt:69:13
 enum-known-m-2 : tie.Need-enum-known-m-2
 enum-known-m-2 c = search needs
 
--- src/message.rt:71:25
 cast-t87 : tie.Need-cast-t87
 cast-t87 c = search needs
 
--- src/message.rt:71:42
 cast-t88 : tie.Need-cast-t88
 cast-t88 c = search needs
 
--- src/message.rt:71:14
 row-requires-2 : tie.Need-row-requires-2
 row-requires-2 c κs = search needs
 
--- src/message.rt:73:13
 enum-known-m-3 : tie.Need-enum-known-m-3
 enum-known-m-3 c = search needs
 
--- src/message.rt:79:14
 cast-t90 : tie.Need-cast-t90
 cast-t90 c = search needs
 
--- src/message.rt:79:31
 cast-t91 : tie.Need-cast-t91
 cast-t91 c = search needs
 
--- src/message.rt:79:49
 cast-t92 : tie.Need-cast-t92
 cast-t92 c = search needs
 
--- src/message.rt:76:14
 row-requires-3 : tie.Need-row-requires-3
 row-requires-3 c κs = search needs
 
--- src/message.rt:81:33
 enum-known-m-4 : tie.Need-enum-known-m-4
 enum-known-m-4 c = search needs
 
--- src/message.rt:84:17
 cast-t94 : tie.Need-cast-t94
 cast-t94 c = search needs
 
--- src/message.rt:84:42
 cast-signed : tie.Need-cast-signed
 cast-signed c =
     let fits : SFits w8 (c .before .m4 .given .0 .1 .0) = record { sfits = c .known-told4 .given .1 .0 .1 } in
     rw (toZ-ofZ fits) (wider8 (c .before .m4 .given .0 .1 .0) fits)
 
--- src/message.rt:84:35
 signed-requires : tie.Need-signed-requires
 signed-requires c κs = search needs
 
--- src/message.rt:81:54
 row-requires-4 : tie.Need-row-requires-4
 row-requires-4 c κs = search needs
 
--- src/message.rt:87:13
 enum-known-m-5 : tie.Need-enum-known-m-5
 enum-known-m-5 c = search needs
 
--- src/message.rt:94:17
 cast-t98 : tie.Need-cast-t98
 cast-t98 c = search needs
 
--- src/message.rt:95:17
 cast-t99 : tie.Need-cast-t99
 cast-t99 c = search needs
 
--- src/message.rt:96:17
 signed-requires-2 : tie.Need-signed-requires-2
 signed-requires-2 c κs = search needs
 
--- src/message.rt:90:14
 row-requires-5 : tie.Need-row-requires-5
 row-requires-5 c κs = search needs
 
--- src/message.rt:103:37
 enum-known-m-6 : tie.Need-enum-known-m-6
 enum-known-m-6 c = search needs
 
--- src/message.rt:106:18
 cast-t102 : tie.Need-cast-t102
 cast-t102 c = search needs
 
--- src/message.rt:106:36
 cast-t103 : tie.Need-cast-t103
 cast-t103 c = search needs
 
--- src/message.rt:103:61
 row-requires-6 : tie.Need-row-requires-6
 row-requires-6 c κs = search needs
 
--- src/message.rt:109:13
 enum-known-m-7 : tie.Need-enum-known-m-7
 enum-known-m-7 c = search needs
 
--- src/message.rt:115:14
 cast-t105 : tie.Need-cast-t105
 cast-t105 c = search needs
 
--- src/message.rt:115:31
 cast-t106 : tie.Need-cast-t106
 cast-t106 c = search needs
 
--- src/message.rt:112:14
 row-requires-7 : tie.Need-row-requires-7
 row-requires-7 c κs = search needs
 
--- src/message.rt:117:30
 enum-known-m-8 : tie.Need-enum-known-m-8
 enum-known-m-8 c = search needs
 
--- src/message.rt:117:53
 cast-t108 : tie.Need-cast-t108
 cast-t108 c = search needs
 
--- src/message.rt:117:42
 row-requires-8 : tie.Need-row-requires-8
 row-requires-8 c κs = search needs
 
--- src/message.rt:118:33
 enum-known-m-9 : tie.Need-enum-known-m-9
 enum-known-m-9 c = search needs
 
--- src/message.rt:121:14
 cast-t110 : tie.Need-cast-t110
 cast-t110 c = search needs
 
--- src/message.rt:121:28
 cast-t111 : tie.Need-cast-t111
 cast-t111 c = search needs
 
--- src/message.rt:118:55
 row-requires-9 : tie.Need-row-requires-9
 row-requires-9 c κs = search needs
 
--- src/message.rt:123:32
 enum-known-m-10 : tie.Need-enum-known-m-10
 enum-known-m-10 c = search needs
 
--- src/message.rt:126:14
 cast-t113 : tie.Need-cast-t113
 cast-t113 c = search needs
 
--- src/message.rt:126:31
 cast-t114 : tie.Need-cast-t114
 cast-t114 c = search needs
 
--- src/message.rt:123:51
 row-requires-10 : tie.Need-row-requires-10
 row-requires-10 c κs = search needs
 
--- src/message.rt:128:29
 enum-known-m-11 : tie.Need-enum-known-m-11
 enum-known-m-11 c = search needs
 
--- src/message.rt:128:51
 cast-t116 : tie.Need-cast-t116
 cast-t116 c = search needs
 
--- src/message.rt:128:39
 row-requires-11 : tie.Need-row-requires-11
 row-requires-11 c κs = search needs
 
--- src/message.rt:130:13
 enum-known-m-12 : tie.Need-enum-known-m-12
 enum-known-m-12 c = search needs
 
--- src/message.rt:138:17
 cast-t118 : tie.Need-cast-t118
 cast-t118 c = search needs
 
--- src/message.rt:140:17
 cast-t119 : tie.Need-cast-t119
 cast-t119 c = search needs
 
--- src/message.rt:141:17
 signed-requires-3 : tie.Need-signed-requires-3
 signed-requires-3 c κs = search needs
 
--- src/message.rt:142:17
 signed-requires-4 : tie.Need-signed-requires-4
 signed-requires-4 c κs = search needs
 
--- src/message.rt:134:14
 row-requires-12 : tie.Need-row-requires-12
 row-requires-12 c κs = search needs
 
--- src/message.rt:148:13
 enum-known-m-13 : tie.Need-enum-known-m-13
 enum-known-m-13 c = search needs
 
--- src/message.rt:156:17
 cast-t123 : tie.Need-cast-t123
 cast-t123 c = search needs
 
--- src/message.rt:158:17
 cast-t124 : tie.Need-cast-t124
 cast-t124 c = search needs
 
--- src/message.rt:159:17
 cast-t125 : tie.Need-cast-t125
 cast-t125 c = search needs
 
--- src/message.rt:160:17
 cast-t126 : tie.Need-cast-t126
 cast-t126 c = search needs
 
--- src/message.rt:152:14
 row-requires-13 : tie.Need-row-requires-13
 row-requires-13 c κs = search needs
 
--- src/message.rt:165:33
 enum-known-m-14 : tie.Need-enum-known-m-14
 enum-known-m-14 c = search needs
 
--- src/message.rt:168:14
 cast-t128 : tie.Need-cast-t128
 cast-t128 c = search needs
 
--- src/message.rt:168:30
 cast-t129 : tie.Need-cast-t129
 cast-t129 c = search needs
 
--- src/message.rt:165:53
 row-requires-14 : tie.Need-row-requires-14
 row-requires-14 c κs = search needs
 
--- src/message.rt:170:47
 enum-told : tie.Need-enum-told
 enum-told c = search needs
 
--- src/message.rt:170:36
 row-requires-15 : tie.Need-row-requires-15
 row-requires-15 c κs = search needs
 
--- src/message.rt:171:43
 enum-told-2 : tie.Need-enum-told-2
 enum-told-2 c = search needs
 
--- src/message.rt:171:32
 row-requires-16 : tie.Need-row-requires-16
 row-requires-16 c κs = search needs
 
--- src/message.rt:172:50
 enum-told-3 : tie.Need-enum-told-3
 enum-told-3 c = search needs
 
--- src/message.rt:172:39
 row-requires-17 : tie.Need-row-requires-17
 row-requires-17 c κs = search needs
 
--- src/message.rt:173:31
 enum-known-m-15 : tie.Need-enum-known-m-15
 enum-known-m-15 c = search needs
 
--- src/message.rt:173:55
 cast-t134 : tie.Need-cast-t134
 cast-t134 c = search needs
 
--- src/message.rt:173:43
 row-requires-18 : tie.Need-row-requires-18
 row-requires-18 c κs = search needs
 
--- src/message.rt:174:43
 enum-known-m-16 : tie.Need-enum-known-m-16
 enum-known-m-16 c = search needs
 
--- src/message.rt:177:14
 cast-t136 : tie.Need-cast-t136
 cast-t136 c = search needs
 
--- src/message.rt:177:27
 cast-t137 : tie.Need-cast-t137
 cast-t137 c = search needs
 
--- src/message.rt:174:66
 row-requires-19 : tie.Need-row-requires-19
 row-requires-19 c κs = search needs
 
--- src/message.rt:180:13
 enum-known-m-17 : tie.Need-enum-known-m-17
 enum-known-m-17 c = search needs
 
--- src/message.rt:186:14
 cast-t139 : tie.Need-cast-t139
 cast-t139 c = search needs
 
--- src/message.rt:186:27
 cast-t140 : tie.Need-cast-t140
 cast-t140 c = search needs
 
--- src/message.rt:186:40
 cast-t141 : tie.Need-cast-t141
 cast-t141 c = search needs
 
--- src/message.rt:183:14
 row-requires-20 : tie.Need-row-requires-20
 row-requires-20 c κs = search needs
 
--- src/message.rt:189:13
 enum-known-m-18 : tie.Need-enum-known-m-18
 enum-known-m-18 c = search needs
 
--- src/message.rt:197:17
 cast-t143 : tie.Need-cast-t143
 cast-t143 c = search needs
 
--- src/message.rt:198:17
 cast-t144 : tie.Need-cast-t144
 cast-t144 c = search needs
 
--- src/message.rt:199:17
 cast-t145 : tie.Need-cast-t145
 cast-t145 c = search needs
 
--- src/message.rt:200:17
 cast-t146 : tie.Need-cast-t146
 cast-t146 c = search needs
 
--- src/message.rt:193:14
 row-requires-21 : tie.Need-row-requires-21
 row-requires-21 c κs = search needs
 
--- src/message.rt:207:13
 enum-known-m-19 : tie.Need-enum-known-m-19
 enum-known-m-19 c = search needs
 
--- src/message.rt:216:17
 cast-t148 : tie.Need-cast-t148
 cast-t148 c = search needs
 
--- src/message.rt:218:17
 cast-t149 : tie.Need-cast-t149
 cast-t149 c = search needs
 
--- src/message.rt:219:17
 cast-t150 : tie.Need-cast-t150
 cast-t150 c = search needs
 
--- src/message.rt:220:17
 cast-t151 : tie.Need-cast-t151
 cast-t151 c = search needs
 
--- src/message.rt:221:17
 cast-t152 : tie.Need-cast-t152
 cast-t152 c = search needs
 
--- src/message.rt:212:14
 row-requires-22 : tie.Need-row-requires-22
 row-requires-22 c κs = search needs
 
--- src/message.rt:225:37
 enum-known-m-20 : tie.Need-enum-known-m-20
 enum-known-m-20 c = search needs
 
--- src/message.rt:232:13
 cast-t154 : tie.Need-cast-t154
 cast-t154 c = search needs
 
--- src/message.rt:234:13
 cast-t155 : tie.Need-cast-t155
 cast-t155 c = search needs
 
--- src/message.rt:235:13
 cast-t156 : tie.Need-cast-t156
 cast-t156 c = search needs
 
--- src/message.rt:236:13
 cast-t157 : tie.Need-cast-t157
 cast-t157 c = search needs
 
--- src/message.rt:237:13
 cast-t158 : tie.Need-cast-t158
 cast-t158 c = search needs
 
--- src/message.rt:238:13
 cast-t159 : tie.Need-cast-t159
 cast-t159 c = search needs
 
--- src/message.rt:239:13
 cast-t160 : tie.Need-cast-t160
 cast-t160 c = search needs
 
--- src/message.rt:240:13
 cast-t161 : tie.Need-cast-t161
 cast-t161 c = search needs
 
--- src/message.rt:241:13
 cast-t162 : tie.Need-cast-t162
 cast-t162 c = search needs
 
--- src/message.rt:242:13
 cast-t163 : tie.Need-cast-t163
 cast-t163 c = search needs
 
--- src/message.rt:248:13
 enum-known-m-21 : tie.Need-enum-known-m-21
 enum-known-m-21 c = search needs
 
--- src/message.rt:254:14
 cast-t164 : tie.Need-cast-t164
 cast-t164 c = search needs
 
--- src/message.rt:254:27
 cast-t165 : tie.Need-cast-t165
 cast-t165 c = search needs
 
--- src/message.rt:254:40
 cast-t166 : tie.Need-cast-t166
 cast-t166 c = search needs
 
--- src/message.rt:251:14
 row-requires-23 : tie.Need-row-requires-23
 row-requires-23 c κs = search needs
 
--- src/message.rt:257:13
 enum-known-m-22 : tie.Need-enum-known-m-22
 enum-known-m-22 c = search needs
 
--- src/message.rt:266:17
 cast-t168 : tie.Need-cast-t168
 cast-t168 c = search needs
 
--- src/message.rt:267:17
 cast-t169 : tie.Need-cast-t169
 cast-t169 c = search needs
 
--- src/message.rt:268:17
 cast-t170 : tie.Need-cast-t170
 cast-t170 c = search needs
 
--- src/message.rt:269:17
 float-requires : tie.Need-float-requires
 float-requires c κs = search needs
 
--- src/message.rt:270:17
 float-requires-2 : tie.Need-float-requires-2
 float-requires-2 c κs = search needs
 
--- src/message.rt:262:14
 row-requires-24 : tie.Need-row-requires-24
 row-requires-24 c κs = search needs
 
--- src/message.rt:276:13
 enum-known-m-23 : tie.Need-enum-known-m-23
 enum-known-m-23 c = search needs
 
--- src/message.rt:282:14
 cast-t174 : tie.Need-cast-t174
 cast-t174 c = search needs
 
--- src/message.rt:282:27
 cast-t175 : tie.Need-cast-t175
 cast-t175 c = search needs
 
--- src/message.rt:282:43
 cast-t176 : tie.Need-cast-t176
 cast-t176 c = search needs
 
--- src/message.rt:279:14
 row-requires-25 : tie.Need-row-requires-25
 row-requires-25 c κs = search needs
 
--- src/message.rt:284:29
 enum-known-m-24 : tie.Need-enum-known-m-24
 enum-known-m-24 c = search needs
 
--- src/message.rt:287:14
 cast-t178 : tie.Need-cast-t178
 cast-t178 c = search needs
 
--- src/message.rt:287:27
 cast-t179 : tie.Need-cast-t179
 cast-t179 c = search needs
 
--- src/message.rt:287:43
 cast-t180 : tie.Need-cast-t180
 cast-t180 c = search needs
 
--- src/message.rt:284:51
 row-requires-26 : tie.Need-row-requires-26
 row-requires-26 c κs = search needs
 
--- src/message.rt:289:37
 enum-known-m-25 : tie.Need-enum-known-m-25
 enum-known-m-25 c = search needs
 
--- src/message.rt:292:14
 cast-t182 : tie.Need-cast-t182
 cast-t182 c = search needs
 
--- src/message.rt:292:27
 cast-t183 : tie.Need-cast-t183
 cast-t183 c = search needs
 
--- src/message.rt:289:59
 row-requires-27 : tie.Need-row-requires-27
 row-requires-27 c κs = search needs
 
--- src/message.rt:295:13
 enum-known-m-26 : tie.Need-enum-known-m-26
 enum-known-m-26 c = search needs
 
--- src/message.rt:305:17
 cast-t185 : tie.Need-cast-t185
 cast-t185 c = search needs
 
--- src/message.rt:306:17
 cast-t186 : tie.Need-cast-t186
 cast-t186 c = search needs
 
--- src/message.rt:308:17
 cast-t187 : tie.Need-cast-t187
 cast-t187 c = search needs
 
--- src/message.rt:309:17
 cast-t188 : tie.Need-cast-t188
 cast-t188 c = search needs
 
--- src/message.rt:310:17
 cast-t189 : tie.Need-cast-t189
 cast-t189 c = search needs
 
--- src/message.rt:311:17
 cast-t190 : tie.Need-cast-t190
 cast-t190 c = search needs
 
--- src/message.rt:301:14
 row-requires-28 : tie.Need-row-requires-28
 row-requires-28 c κs = search needs
 
--- src/message.rt:314:30
 enum-known-m-27 : tie.Need-enum-known-m-27
 enum-known-m-27 c = search needs
 
--- src/message.rt:314:52
 cast-t192 : tie.Need-cast-t192
 cast-t192 c = search needs
 
--- src/message.rt:314:40
 row-requires-29 : tie.Need-row-requires-29
 row-requires-29 c κs = search needs
 
--- src/message.rt:316:13
 enum-known-m-28 : tie.Need-enum-known-m-28
 enum-known-m-28 c = search needs
 
--- src/message.rt:324:17
 cast-t194 : tie.Need-cast-t194
 cast-t194 c = search needs
 
--- src/message.rt:325:17
 cast-t195 : tie.Need-cast-t195
 cast-t195 c = search needs
 
--- src/message.rt:326:17
 cast-t196 : tie.Need-cast-t196
 cast-t196 c = search needs
 
--- src/message.rt:327:17
 cast-t197 : tie.Need-cast-t197
 cast-t197 c = search needs
 
--- src/message.rt:320:14
 row-requires-30 : tie.Need-row-requires-30
 row-requires-30 c κs = search needs
 
--- src/message.rt:333:38
 enum-known-m-29 : tie.Need-enum-known-m-29
 enum-known-m-29 c = search needs
 
--- src/message.rt:333:63
 cast-t199 : tie.Need-cast-t199
 cast-t199 c = search needs
 
--- src/message.rt:333:48
 row-requires-31 : tie.Need-row-requires-31
 row-requires-31 c κs = search needs
 
--- src/message.rt:334:35
 enum-known-m-30 : tie.Need-enum-known-m-30
 enum-known-m-30 c = search needs
 
--- src/message.rt:337:17
 cast-t201 : tie.Need-cast-t201
 cast-t201 c = search needs
 
--- src/message.rt:337:32
 cast-t202 : tie.Need-cast-t202
 cast-t202 c = search needs
 
--- src/message.rt:334:55
 row-requires-32 : tie.Need-row-requires-32
 row-requires-32 c κs = search needs
 
--- src/message.rt:60:1
 returns : tie.Need-returns
 returns c = rw (c .before .before .m .given .1, c .row .ensures)
 
--- src/message.rt:60:1
 returns-2 : tie.Need-returns-2
 returns-2 c = rw (c .before .before .m2 .given .1, c .row2 .ensures)
 
--- src/message.rt:60:1
 returns-3 : tie.Need-returns-3
 returns-3 c = rw (c .before .before .m3 .given .1, c .row3 .ensures)
 
--- src/message.rt:60:1
 returns-4 : tie.Need-returns-4
 returns-4 c =
     let fits : SFits w8 (c .before .before .before .m4 .given .0 .1 .0) = record { sfits = c .before .before .known-told4 .given .1 .0 .1 } in
     rw (c .before .before .before .m4 .given .1, c .row4 .ensures, c .before .signed .ensures, toZ-ofZ fits, toZ-ofZ (wider8 (c .before .before .before .m4 .given .0 .1 .0) fits))
 
--- src/message.rt:60:1
 returns-5 : tie.Need-returns-5
 returns-5 c =
     let fits : SFits w32 (c .before .before .before .m5 .given .0 .1 .1 .0) = record { sfits = c .before .before .known-told5 .given .1 .1 .0 .1 } in
     rw (c .before .before .before .m5 .given .1, c .row5 .ensures, c .before .signed2 .ensures, toZ-ofZ fits)
 
--- src/message.rt:60:1
 returns-6 : tie.Need-returns-6
 returns-6 c = rw (c .before .before .m6 .given .1, c .row6 .ensures)
 
--- src/message.rt:60:1
 returns-7 : tie.Need-returns-7
 returns-7 c = rw (c .before .before .m7 .given .1, c .row7 .ensures)
 
--- src/message.rt:60:1
 returns-8 : tie.Need-returns-8
 returns-8 c = rw (c .before .before .m8 .given .1, c .row8 .ensures)
 
--- src/message.rt:60:1
 returns-9 : tie.Need-returns-9
 returns-9 c = rw (c .before .before .m9 .given .1, c .row9 .ensures)
 
--- src/message.rt:60:1
 returns-10 : tie.Need-returns-10
 returns-10 c = rw (c .before .before .m10 .given .1, c .row10 .ensures)
 
--- src/message.rt:60:1
 returns-11 : tie.Need-returns-11
 returns-11 c = rw (c .before .before .m11 .given .1, c .row11 .ensures)
 
--- src/message.rt:60:1
 returns-12 : tie.Need-returns-12
 returns-12 c =
     let told = c .before .before .before .known-told12 .given in
@@ -681,87 +511,66 @@ returns-12 c =
     let software : SFits w32 (c .before .before .before .before .m12 .given .0 .1 .1 .1 .0) = record { sfits = told .1 .1 .1 .0 .1 } in
     rw (c .before .before .before .before .m12 .given .1, c .row12 .ensures, c .before .signed4 .ensures, c .before .before .signed3 .ensures, toZ-ofZ hardware, toZ-ofZ software)
 
--- src/message.rt:60:1
 returns-13 : tie.Need-returns-13
 returns-13 c = rw (c .before .before .m13 .given .1, c .row13 .ensures)
 
--- src/message.rt:60:1
 returns-14 : tie.Need-returns-14
 returns-14 c = rw (c .before .before .m14 .given .1, c .row14 .ensures)
 
--- src/message.rt:60:1
 returns-15 : tie.Need-returns-15
 returns-15 c = rw (c .before .enum-told .given .1, c .row15 .ensures)
 
--- src/message.rt:60:1
 returns-16 : tie.Need-returns-16
 returns-16 c = rw (c .before .enum-told2 .given .1, c .row16 .ensures)
 
--- src/message.rt:60:1
 returns-17 : tie.Need-returns-17
 returns-17 c = rw (c .before .enum-told3 .given .1, c .row17 .ensures)
 
--- src/message.rt:60:1
 returns-18 : tie.Need-returns-18
 returns-18 c = rw (c .before .before .m15 .given .1, c .row18 .ensures)
 
--- src/message.rt:60:1
 returns-19 : tie.Need-returns-19
 returns-19 c = rw (c .before .before .m16 .given .1, c .row19 .ensures)
 
--- src/message.rt:60:1
 returns-20 : tie.Need-returns-20
 returns-20 c = rw (c .before .before .m17 .given .1, c .row20 .ensures)
 
--- src/message.rt:60:1
 returns-21 : tie.Need-returns-21
 returns-21 c = rw (c .before .before .m18 .given .1, c .row21 .ensures)
 
--- src/message.rt:60:1
 returns-22 : tie.Need-returns-22
 returns-22 c = rw (c .before .before .m19 .given .1, c .row22 .ensures)
 
--- src/message.rt:60:1
 returns-23 : tie.Need-returns-23
 returns-23 c = rw (c .before .before .before .before .before .before .before .before .before .before .m20 .given .1)
 
--- src/message.rt:60:1
 returns-24 : tie.Need-returns-24
 returns-24 c = rw (c .before .before .m21 .given .1, c .row23 .ensures)
 
--- src/message.rt:60:1
 returns-25 : tie.Need-returns-25
 returns-25 c = rw (c .before .before .before .before .m22 .given .1, c .row24 .ensures, c .before .float2 .ensures, c .before .before .float .ensures)
 
--- src/message.rt:60:1
 returns-26 : tie.Need-returns-26
 returns-26 c = rw (c .before .before .m23 .given .1, c .row25 .ensures)
 
--- src/message.rt:60:1
 returns-27 : tie.Need-returns-27
 returns-27 c = rw (c .before .before .m24 .given .1, c .row26 .ensures)
 
--- src/message.rt:60:1
 returns-28 : tie.Need-returns-28
 returns-28 c = rw (c .before .before .m25 .given .1, c .row27 .ensures)
 
--- src/message.rt:60:1
 returns-29 : tie.Need-returns-29
 returns-29 c = rw (c .before .before .m26 .given .1, c .row28 .ensures)
 
--- src/message.rt:60:1
 returns-30 : tie.Need-returns-30
 returns-30 c = rw (c .before .before .m27 .given .1, c .row29 .ensures)
 
--- src/message.rt:60:1
 returns-31 : tie.Need-returns-31
 returns-31 c = rw (c .before .before .m28 .given .1, c .row30 .ensures)
 
--- src/message.rt:60:1
 returns-32 : tie.Need-returns-32
 returns-32 c = rw (c .before .before .m29 .given .1, c .row31 .ensures)
 
--- src/message.rt:60:1
 returns-33 : tie.Need-returns-33
 returns-33 c = rw (c .before .before .m30 .given .1, c .row32 .ensures)
 

@@ -3,38 +3,29 @@ use mir.Facts.{toZ-ofZ}
 use Rattle.capi.proofs.Signed.{wider, upper, upper-cell, raised, sum-fits, sum-back}
 use Rattle.capi.proofs.message.signed.Statement.{statement}
 use Rattle.capi.proofs.message.signed.Tie as tie
-use Rattle.capi.proofs.message.signed.Reads as reads
-use Rattle.capi.proofs.message.signed.Lts as lts
 
--- src/values.rt:22:9
 cast-result : tie.Need-cast-result
 cast-result c = rw (toZ-ofZ (c .before .fits .v)) (upper (c .before .args .v) (c .before .fits .v) (rw (toZ-ofZ (c .before .fits .v)) at (c .if1 .taken)))
 
--- src/values.rt:24:11
 cast-result-2 : tie.Need-cast-result-2
 cast-result-2 c = rw (toZ-ofZ (c .before .fits .v)) (wider (c .before .args .v) (c .before .fits .v))
 
--- src/values.rt:24:11
 add-result : tie.Need-add-result
 add-result c = sum-fits (c .before .args .v) (c .before .fits .v) (raised (c .before .args .v) (c .before .fits .v) (rw (toZ-ofZ (c .before .fits .v)) at (c .if1 .left)))
 
--- src/values.rt:24:10
 cast-result-3 : tie.Need-cast-result-3
 cast-result-3 c =
     let r = raised (c .before .args .v) (c .before .fits .v) (rw (toZ-ofZ (c .before .fits .v)) at (c .if1 .left)) in
     rw (sum-back (c .before .args .v) (c .before .fits .v) r) (tt, record { fits = omega (arith, r .small) })
 
--- src/values.rt:24:9
 add-result-2 : tie.Need-add-result-2
 add-result-2 c =
     let r = raised (c .before .args .v) (c .before .fits .v) (rw (toZ-ofZ (c .before .fits .v)) at (c .if1 .left)) in
     rw (sum-back (c .before .args .v) (c .before .fits .v) r) (record { fits = omega (arith, r .small) })
 
--- src/values.rt:18:1
 returns : tie.Need-returns
 returns c = rw (toZ-ofZ (c .before .fits .v)) (upper-cell (c .before .args .v) (rw (toZ-ofZ (c .before .fits .v)) at (c .if1 .taken)))
 
--- src/values.rt:18:1
 returns-2 : tie.Need-returns-2
 returns-2 c =
     let r = raised (c .before .args .v) (c .before .fits .v) (rw (toZ-ofZ (c .before .fits .v)) at (c .if1 .left)) in

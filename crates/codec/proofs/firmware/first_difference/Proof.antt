@@ -4,14 +4,11 @@ use borrow.Author.Needs.{needs}
 use borrow.Author.Tests.{lt-ltb, le-ltb}
 use mathlib.Core.Path.{_≡_, _∙_, sym}
 use native.Mathlib.Nat.{add-zero}
-use native.Mathlib.Omega.{arith}
 use lib.ListN.{length, drop}
 use Rattle.protocol.specs.Field.{sameBytes}
 use Rattle.protocol.proofs.FixedString.{differs, agrees, all-agree}
 use Rattle.codec.proofs.firmware.first_difference.Statement.{statement}
 use Rattle.codec.proofs.firmware.first_difference.Tie as tie
-use Rattle.codec.proofs.firmware.first_difference.Reads as reads
-use Rattle.codec.proofs.firmware.first_difference.Lts as lts
 
 abbrev Inv-loop : tie.InvT-loop
 Inv-loop s at text i₀ i = (i ≤ length text) × (sameBytes s at text ≡ sameBytes s (at + i) (drop i text))

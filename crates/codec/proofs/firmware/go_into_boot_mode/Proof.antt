@@ -1,50 +1,36 @@
 use borrow.Author.Needs.{needs}
-use borrow.Author.Tests.{lt-ltb, le-ltb, eq-eqb, le-leb, lt-leb, ne-eqb}
+use borrow.Author.Tests.{lt-ltb, le-ltb, eq-eqb, ne-eqb}
 use Rattle.protocol.specs.Form.{layout}
 use Rattle.protocol.specs.Decode.{decodeForm}
 use Rattle.codec.proofs.firmware.go_into_boot_mode.Statement.{statement}
 use Rattle.codec.proofs.firmware.go_into_boot_mode.Tie as tie
-use Rattle.codec.proofs.firmware.go_into_boot_mode.Reads as reads
-use Rattle.codec.proofs.firmware.go_into_boot_mode.Lts as lts
-use Rattle.codec.proofs.firmware.first_difference.Reads as first-difference-reads
-use Rattle.codec.proofs.refusal.outside.Reads as outside-reads
-use Rattle.codec.proofs.refusal.wrong_size.Reads as wrong-size-reads
 
--- src/firmware.rt:38:9
 wrong-size-requires : tie.Need-wrong-size-requires
 wrong-size-requires c κs = search needs
 
--- src/firmware.rt:38:9
 returns : tie.Need-returns
 unfolding decodeForm layout
 returns c = simp (c .wrong-size .ensures, ne-eqb _ _ (c .before .if1 .taken))
 
--- src/firmware.rt:40:36
 slice-aggregate-first-difference : tie.Need-slice-aggregate-first-difference
 slice-aggregate-first-difference c = search needs
 
--- src/firmware.rt:40:9
 first-difference-requires : tie.Need-first-difference-requires
 first-difference-requires c κs = search needs
 
--- src/firmware.rt:42:25
 add-outside : tie.Need-add-outside
 add-outside c = search needs
 
--- src/firmware.rt:42:24
 cast-outside : tie.Need-cast-outside
 cast-outside c = search needs
 
--- src/firmware.rt:42:9
 outside-requires : tie.Need-outside-requires
 outside-requires c κs = search needs
 
--- src/firmware.rt:42:9
 returns-2 : tie.Need-returns-2
 unfolding decodeForm layout
 returns-2 c = simp (c .outside .ensures, lt-ltb _ _ (c .before .if2 .taken), c .before .before .first-difference .ensures .1, eq-eqb _ _ (c .before .before .before .before .if1 .left))
 
--- src/firmware.rt:34:1
 returns-3 : tie.Need-returns-3
 unfolding decodeForm layout
 returns-3 c = simp (le-ltb _ _ (c .if2 .left), c .before .first-difference .ensures .1, eq-eqb _ _ (c .before .before .before .if1 .left))

@@ -5,24 +5,17 @@ use Rattle.protocol.specs.Form.{layout}
 use Rattle.protocol.specs.Decode.{decodeForm}
 use Rattle.codec.proofs.firmware.lock_status.Statement.{statement}
 use Rattle.codec.proofs.firmware.lock_status.Tie as tie
-use Rattle.codec.proofs.firmware.lock_status.Reads as reads
-use Rattle.codec.proofs.firmware.lock_status.Lts as lts
-use Rattle.codec.proofs.refusal.wrong_size.Reads as wrong-size-reads
 
--- src/firmware.rt:76:9
 wrong-size-requires : tie.Need-wrong-size-requires
 wrong-size-requires c κs = search needs
 
--- src/firmware.rt:76:9
 returns : tie.Need-returns
 unfolding decodeForm layout littleEndian
 returns c = simp (c .wrong-size .ensures, ne-eqb _ _ (c .before .if1 .taken))
 
--- src/firmware.rt:78:53
 shared-slice-read-t5 : tie.Need-shared-slice-read-t5
 shared-slice-read-t5 c = search needs
 
--- src/firmware.rt:72:1
 returns-2 : tie.Need-returns-2
 unfolding decodeForm layout littleEndian
 returns-2 c = simp (eq-eqb _ _ (c .before .if1 .left))

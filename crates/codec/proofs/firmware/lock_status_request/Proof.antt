@@ -5,20 +5,14 @@ use Rattle.protocol.specs.Form.{layout}
 use Rattle.protocol.specs.Decode.{decodeForm}
 use Rattle.codec.proofs.firmware.lock_status_request.Statement.{statement}
 use Rattle.codec.proofs.firmware.lock_status_request.Tie as tie
-use Rattle.codec.proofs.firmware.lock_status_request.Reads as reads
-use Rattle.codec.proofs.firmware.lock_status_request.Lts as lts
-use Rattle.codec.proofs.refusal.wrong_size.Reads as wrong-size-reads
 
--- src/firmware.rt:66:9
 wrong-size-requires : tie.Need-wrong-size-requires
 wrong-size-requires c κs = search needs
 
--- src/firmware.rt:66:9
 returns : tie.Need-returns
 unfolding decodeForm layout littleEndian
 returns c = simp (c .wrong-size .ensures, ne-eqb _ _ (c .before .if1 .taken))
 
--- src/firmware.rt:62:1
 returns-2 : tie.Need-returns-2
 unfolding decodeForm layout littleEndian
 returns-2 c = simp (eq-eqb _ _ (c .if1 .left))

@@ -6,43 +6,30 @@ use Rattle.protocol.specs.Decode.{decodeForm}
 use borrow.Author.Needs.{needs}
 use Rattle.codec.proofs.hub.alert_update.Statement.{statement}
 use Rattle.codec.proofs.hub.alert_update.Tie as tie
-use Rattle.codec.proofs.hub.alert_update.Reads as reads
-use Rattle.codec.proofs.hub.alert_update.Lts as lts
-use Rattle.codec.proofs.hub.is_alert_status.Reads as is-alert-status-reads
-use Rattle.codec.proofs.refusal.outside.Reads as outside-reads
-use Rattle.codec.proofs.refusal.wrong_size.Reads as wrong-size-reads
 
--- src/hub.rt:120:9
 wrong-size-requires : tie.Need-wrong-size-requires
 wrong-size-requires c κs = search needs
 
--- src/hub.rt:120:9
 returns : tie.Need-returns
 unfolding decodeForm layout littleEndian
 returns c = simp (c .wrong-size .ensures, ne-eqb _ _ (c .before .if1 .taken))
 
--- src/hub.rt:122:18
 shared-slice-read-status : tie.Need-shared-slice-read-status
 shared-slice-read-status c = search needs
 
--- src/hub.rt:123:9
 is-alert-status-requires : tie.Need-is-alert-status-requires
 is-alert-status-requires c κs = search needs
 
--- src/hub.rt:124:9
 outside-requires : tie.Need-outside-requires
 outside-requires c κs = search needs
 
--- src/hub.rt:124:9
 returns-2 : tie.Need-returns-2
 unfolding decodeForm layout littleEndian
 returns-2 c = simp (c .outside .ensures, sym (c .before .before .is-alert-status .ensures) ∙ not-true _ (c .before .if2 .taken), eq-eqb _ _ (c .before .before .before .before .if1 .left))
 
--- src/hub.rt:127:16
 shared-slice-read-t6 : tie.Need-shared-slice-read-t6
 shared-slice-read-t6 c = search needs
 
--- src/hub.rt:115:1
 returns-3 : tie.Need-returns-3
 unfolding decodeForm layout littleEndian
 returns-3 c = simp (sym (c .before .before .is-alert-status .ensures) ∙ not-false _ (c .before .if2 .left), eq-eqb _ _ (c .before .before .before .before .if1 .left), c .before .before .before .before .before .before .pre)

@@ -5,44 +5,30 @@ use Rattle.protocol.specs.Decode.{decodeType}
 use borrow.Author.Needs.{needs}
 use Rattle.codec.proofs.hub.hub_actions_down.Statement.{statement}
 use Rattle.codec.proofs.hub.hub_actions_down.Tie as tie
-use Rattle.codec.proofs.hub.hub_actions_down.Reads as reads
-use Rattle.codec.proofs.hub.hub_actions_down.Lts as lts
-use Rattle.codec.proofs.hub.hub_action.Reads as hub-action-reads
-use Rattle.codec.proofs.hub.is_down_action.Reads as is-down-action-reads
-use Rattle.codec.proofs.refusal.outside.Reads as outside-reads
-use Rattle.codec.proofs.refusal.wrong_size.Reads as wrong-size-reads
 
--- src/hub.rt:32:9
 wrong-size-requires : tie.Need-wrong-size-requires
 wrong-size-requires c κs = search needs
 
--- src/hub.rt:32:9
 returns : tie.Need-returns
 unfolding decodeType hubActions
 returns c = simp (c .wrong-size .ensures, lt-ltb _ _ (c .before .if1 .taken))
 
--- src/hub.rt:34:24
 shared-slice-read-is-down-action : tie.Need-shared-slice-read-is-down-action
 shared-slice-read-is-down-action c = search needs
 
--- src/hub.rt:34:9
 is-down-action-requires : tie.Need-is-down-action-requires
 is-down-action-requires c κs = search needs
 
--- src/hub.rt:35:9
 outside-requires : tie.Need-outside-requires
 outside-requires c κs = search needs
 
--- src/hub.rt:35:9
 returns-2 : tie.Need-returns-2
 unfolding decodeType hubActions
 returns-2 c = simp (c .outside .ensures, sym (c .before .before .is-down-action .ensures) ∙ not-true _ (c .before .if2 .taken), le-ltb _ _ (c .before .before .before .before .if1 .left))
 
--- src/hub.rt:37:5
 hub-action-requires : tie.Need-hub-action-requires
 hub-action-requires c κs = search needs
 
--- src/hub.rt:28:1
 returns-3 : tie.Need-returns-3
 unfolding decodeType hubActions
 returns-3 c = simp (c .hub-action .ensures, sym (c .before .before .is-down-action .ensures) ∙ not-false _ (c .before .if2 .left), le-ltb _ _ (c .before .before .before .before .if1 .left))

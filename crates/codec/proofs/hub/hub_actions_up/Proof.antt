@@ -5,44 +5,30 @@ use Rattle.protocol.specs.Decode.{decodeType}
 use borrow.Author.Needs.{needs}
 use Rattle.codec.proofs.hub.hub_actions_up.Statement.{statement}
 use Rattle.codec.proofs.hub.hub_actions_up.Tie as tie
-use Rattle.codec.proofs.hub.hub_actions_up.Reads as reads
-use Rattle.codec.proofs.hub.hub_actions_up.Lts as lts
-use Rattle.codec.proofs.hub.hub_action.Reads as hub-action-reads
-use Rattle.codec.proofs.refusal.outside.Reads as outside-reads
-use Rattle.codec.proofs.refusal.wrong_size.Reads as wrong-size-reads
-use Rattle.codec.proofs.rule.between.Reads as between-reads
 
--- src/hub.rt:45:9
 wrong-size-requires : tie.Need-wrong-size-requires
 wrong-size-requires c κs = search needs
 
--- src/hub.rt:45:9
 returns : tie.Need-returns
 unfolding decodeType hubActions
 returns c = simp (c .wrong-size .ensures, lt-ltb _ _ (c .before .if1 .taken))
 
--- src/hub.rt:47:23
 shared-slice-read-between : tie.Need-shared-slice-read-between
 shared-slice-read-between c = search needs
 
--- src/hub.rt:47:9
 between-requires : tie.Need-between-requires
 between-requires c κs = search needs
 
--- src/hub.rt:48:9
 outside-requires : tie.Need-outside-requires
 outside-requires c κs = search needs
 
--- src/hub.rt:48:9
 returns-2 : tie.Need-returns-2
 unfolding decodeType hubActions
 returns-2 c = simp (c .outside .ensures, sym (c .before .before .between .ensures) ∙ not-true _ (c .before .if2 .taken), le-ltb _ _ (c .before .before .before .before .if1 .left))
 
--- src/hub.rt:50:5
 hub-action-requires : tie.Need-hub-action-requires
 hub-action-requires c κs = search needs
 
--- src/hub.rt:41:1
 returns-3 : tie.Need-returns-3
 unfolding decodeType hubActions
 returns-3 c = simp (c .hub-action .ensures, sym (c .before .before .between .ensures) ∙ not-false _ (c .before .if2 .left), le-ltb _ _ (c .before .before .before .before .if1 .left))

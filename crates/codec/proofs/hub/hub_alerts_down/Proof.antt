@@ -5,61 +5,43 @@ use Rattle.protocol.specs.Decode.{decodeType}
 use borrow.Author.Needs.{needs}
 use Rattle.codec.proofs.hub.hub_alerts_down.Statement.{statement}
 use Rattle.codec.proofs.hub.hub_alerts_down.Tie as tie
-use Rattle.codec.proofs.hub.hub_alerts_down.Reads as reads
-use Rattle.codec.proofs.hub.hub_alerts_down.Lts as lts
-use Rattle.codec.proofs.hub.alert_command.Reads as alert-command-reads
-use Rattle.codec.proofs.refusal.outside.Reads as outside-reads
-use Rattle.codec.proofs.refusal.wrong_size.Reads as wrong-size-reads
-use Rattle.codec.proofs.rule.between.Reads as between-reads
 
--- src/hub.rt:67:9
 wrong-size-requires : tie.Need-wrong-size-requires
 wrong-size-requires c κs = search needs
 
--- src/hub.rt:67:9
 returns : tie.Need-returns
 unfolding decodeType hubAlerts
 returns c = simp (c .wrong-size .ensures, lt-ltb _ _ (c .before .if1 .taken))
 
--- src/hub.rt:69:20
 shared-slice-read-between : tie.Need-shared-slice-read-between
 shared-slice-read-between c = search needs
 
--- src/hub.rt:69:9
 between-requires : tie.Need-between-requires
 between-requires c κs = search needs
 
--- src/hub.rt:70:9
 outside-requires : tie.Need-outside-requires
 outside-requires c κs = search needs
 
--- src/hub.rt:70:9
 returns-2 : tie.Need-returns-2
 unfolding decodeType hubAlerts
 returns-2 c = simp (c .outside .ensures, sym (c .before .before .between .ensures) ∙ not-true _ (c .before .if2 .taken), le-ltb _ _ (c .before .before .before .before .if1 .left))
 
--- src/hub.rt:72:20
 shared-slice-read-between-2 : tie.Need-shared-slice-read-between-2
 shared-slice-read-between-2 c = search needs
 
--- src/hub.rt:72:9
 between-requires-2 : tie.Need-between-requires-2
 between-requires-2 c κs = search needs
 
--- src/hub.rt:73:9
 outside-requires-2 : tie.Need-outside-requires-2
 outside-requires-2 c κs = search needs
 
--- src/hub.rt:73:9
 returns-3 : tie.Need-returns-3
 unfolding decodeType hubAlerts
 returns-3 c = simp (c .outside2 .ensures, sym (c .before .before .between2 .ensures) ∙ not-true _ (c .before .if3 .taken), sym (c .before .before .before .before .before .between .ensures) ∙ not-false _ (c .before .before .before .before .if2 .left), le-ltb _ _ (c .before .before .before .before .before .before .before .if1 .left))
 
--- src/hub.rt:75:5
 alert-command-requires : tie.Need-alert-command-requires
 alert-command-requires c κs = search needs
 
--- src/hub.rt:63:1
 returns-4 : tie.Need-returns-4
 unfolding decodeType hubAlerts
 returns-4 c = simp (c .alert-command .ensures, sym (c .before .before .between2 .ensures) ∙ not-false _ (c .before .if3 .left), sym (c .before .before .before .before .before .between .ensures) ∙ not-false _ (c .before .before .before .before .if2 .left), le-ltb _ _ (c .before .before .before .before .before .before .before .if1 .left))

@@ -3,15 +3,11 @@ use Rattle.protocol.specs.Form.{alertStatus}
 use Rattle.codec.proofs.hub.is_alert_status.Statement.{statement}
 use borrow.Author.Tests.{eq-eqb, ne-eqb}
 use Rattle.codec.proofs.hub.is_alert_status.Tie as tie
-use Rattle.codec.proofs.hub.is_alert_status.Reads as reads
-use Rattle.codec.proofs.hub.is_alert_status.Lts as lts
 
--- src/hub.rt:122:9
 returns : tie.Need-returns
 unfolding alertStatus
 returns c = simp (eq-eqb _ _ (c .if1 .taken))
 
--- src/hub.rt:118:1
 returns-2 : tie.Need-returns-2
 unfolding alertStatus
 returns-2 c = simp (ne-eqb _ _ (c .if1 .left), or-false)

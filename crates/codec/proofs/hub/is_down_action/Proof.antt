@@ -3,20 +3,15 @@ use mathlib.Core.Bool.{or-false}
 use Rattle.codec.proofs.hub.is_down_action.Statement.{statement}
 use borrow.Author.Tests.{le-leb, lt-leb}
 use Rattle.codec.proofs.hub.is_down_action.Tie as tie
-use Rattle.codec.proofs.hub.is_down_action.Reads as reads
-use Rattle.codec.proofs.hub.is_down_action.Lts as lts
 
--- src/hub.rt:18:9
 returns : tie.Need-returns
 unfolding downAction
 returns c = simp (lt-leb _ _ (c .if1 .taken), or-false)
 
--- src/hub.rt:21:9
 returns-2 : tie.Need-returns-2
 unfolding downAction
 returns-2 c = simp (le-leb _ _ (c .if2 .taken), le-leb _ _ (c .before .if1 .left))
 
--- src/hub.rt:14:1
 returns-3 : tie.Need-returns-3
 unfolding downAction
 returns-3 c = simp (lt-leb _ _ (c .if2 .left), le-leb _ _ (c .before .if1 .left), or-false)

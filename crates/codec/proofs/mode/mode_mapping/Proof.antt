@@ -5,43 +5,30 @@ use Rattle.protocol.specs.Decode.{decodeForm}
 use borrow.Author.Needs.{needs}
 use Rattle.codec.proofs.mode.mode_mapping.Statement.{statement}
 use Rattle.codec.proofs.mode.mode_mapping.Tie as tie
-use Rattle.codec.proofs.mode.mode_mapping.Reads as reads
-use Rattle.codec.proofs.mode.mode_mapping.Lts as lts
-use Rattle.codec.proofs.number.u16_at.Reads as u16-at-reads
-use Rattle.codec.proofs.refusal.outside.Reads as outside-reads
-use Rattle.codec.proofs.refusal.wrong_size.Reads as wrong-size-reads
 
--- src/mode.rt:93:9
 wrong-size-requires : tie.Need-wrong-size-requires
 wrong-size-requires c κs = search needs
 
--- src/mode.rt:93:9
 returns : tie.Need-returns
 unfolding decodeForm layout littleEndian
 returns c = simp (c .wrong-size .ensures, ne-eqb _ _ (c .before .if1 .taken))
 
--- src/mode.rt:95:16
 shared-slice-read-mode : tie.Need-shared-slice-read-mode
 shared-slice-read-mode c = search needs
 
--- src/mode.rt:97:9
 outside-requires : tie.Need-outside-requires
 outside-requires c κs = search needs
 
--- src/mode.rt:97:9
 returns-2 : tie.Need-returns-2
 unfolding decodeForm layout littleEndian
 returns-2 c = simp (c .outside .ensures, lt-leb _ _ (c .before .if2 .taken), eq-eqb _ _ (c .before .before .before .if1 .left))
 
--- src/mode.rt:100:15
 shared-slice-read-t6 : tie.Need-shared-slice-read-t6
 shared-slice-read-t6 c = search needs
 
--- src/mode.rt:102:18
 u16-at-requires : tie.Need-u16-at-requires
 u16-at-requires c κs = search needs
 
--- src/mode.rt:88:1
 returns-3 : tie.Need-returns-3
 unfolding decodeForm layout littleEndian
 returns-3 c = simp (c .u16-at .ensures, le-leb _ _ (c .before .before .if2 .left), eq-eqb _ _ (c .before .before .before .before .if1 .left), c .before .before .before .before .before .before .pre)

@@ -6,78 +6,56 @@ use Rattle.protocol.specs.Decode.{decodeForm}
 use borrow.Author.Needs.{needs}
 use Rattle.codec.proofs.mode.mode_range.Statement.{statement}
 use Rattle.codec.proofs.mode.mode_range.Tie as tie
-use Rattle.codec.proofs.mode.mode_range.Reads as reads
-use Rattle.codec.proofs.mode.mode_range.Lts as lts
-use Rattle.codec.proofs.number.f32_at.Reads as f32-at-reads
-use Rattle.codec.proofs.number.finite_at.Reads as finite-at-reads
-use Rattle.codec.proofs.refusal.outside.Reads as outside-reads
-use Rattle.codec.proofs.refusal.wrong_size.Reads as wrong-size-reads
 
--- src/mode.rt:67:9
 wrong-size-requires : tie.Need-wrong-size-requires
 wrong-size-requires c κs = search needs
 
--- src/mode.rt:67:9
 returns : tie.Need-returns
 unfolding decodeForm layout littleEndian
 returns c = simp (c .wrong-size .ensures, ne-eqb _ _ (c .before .if1 .taken))
 
--- src/mode.rt:69:16
 shared-slice-read-mode : tie.Need-shared-slice-read-mode
 shared-slice-read-mode c = search needs
 
--- src/mode.rt:71:9
 outside-requires : tie.Need-outside-requires
 outside-requires c κs = search needs
 
--- src/mode.rt:71:9
 returns-2 : tie.Need-returns-2
 unfolding decodeForm layout littleEndian
 returns-2 c = simp (c .outside .ensures, lt-leb _ _ (c .before .if2 .taken), eq-eqb _ _ (c .before .before .before .if1 .left))
 
--- src/mode.rt:73:9
 finite-at-requires : tie.Need-finite-at-requires
 finite-at-requires c κs = search needs
 
--- src/mode.rt:74:9
 outside-requires-2 : tie.Need-outside-requires-2
 outside-requires-2 c κs = search needs
 
--- src/mode.rt:74:9
 returns-3 : tie.Need-returns-3
 unfolding decodeForm layout littleEndian
 returns-3 c = simp (c .outside2 .ensures, sym (c .before .before .finite-at .ensures) ∙ not-true _ (c .before .if3 .taken), le-leb _ _ (c .before .before .before .if2 .left), eq-eqb _ _ (c .before .before .before .before .before .if1 .left))
 
--- src/mode.rt:76:9
 finite-at-requires-2 : tie.Need-finite-at-requires-2
 finite-at-requires-2 c κs = search needs
 
--- src/mode.rt:77:9
 outside-requires-3 : tie.Need-outside-requires-3
 outside-requires-3 c κs = search needs
 
--- src/mode.rt:77:9
 returns-4 : tie.Need-returns-4
 unfolding decodeForm layout littleEndian
 returns-4 c = simp (c .outside3 .ensures, sym (c .before .before .finite-at2 .ensures) ∙ not-true _ (c .before .if4 .taken), sym (c .before .before .before .before .finite-at .ensures) ∙ not-false _ (c .before .before .before .if3 .left), le-leb _ _ (c .before .before .before .before .before .if2 .left), eq-eqb _ _ (c .before .before .before .before .before .before .before .if1 .left))
 
--- src/mode.rt:80:15
 shared-slice-read-t6 : tie.Need-shared-slice-read-t6
 shared-slice-read-t6 c = search needs
 
--- src/mode.rt:82:22
 shared-slice-read-t10 : tie.Need-shared-slice-read-t10
 shared-slice-read-t10 c = search needs
 
--- src/mode.rt:83:17
 f32-at-requires : tie.Need-f32-at-requires
 f32-at-requires c κs = (search needs, sym (c .before .before .before .before .before .finite-at .ensures) ∙ not-false _ (c .before .before .before .before .if3 .left))
 
--- src/mode.rt:84:18
 f32-at-requires-2 : tie.Need-f32-at-requires-2
 f32-at-requires-2 c κs = (search needs, sym (c .before .before .before .before .finite-at2 .ensures) ∙ not-false _ (c .before .before .before .if4 .left))
 
--- src/mode.rt:63:1
 returns-5 : tie.Need-returns-5
 unfolding decodeForm layout littleEndian
 returns-5 c = simp (c .f32-at2 .ensures, c .before .f32-at .ensures, sym (c .before .before .before .before .before .finite-at2 .ensures) ∙ not-false _ (c .before .before .before .before .if4 .left), sym (c .before .before .before .before .before .before .before .finite-at .ensures) ∙ not-false _ (c .before .before .before .before .before .before .if3 .left), le-leb _ _ (c .before .before .before .before .before .before .before .before .if2 .left), eq-eqb _ _ (c .before .before .before .before .before .before .before .before .before .before .if1 .left))

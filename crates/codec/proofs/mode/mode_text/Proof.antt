@@ -5,51 +5,37 @@ use Rattle.protocol.specs.Decode.{decodeForm}
 use borrow.Author.Needs.{needs}
 use Rattle.codec.proofs.mode.mode_text.Statement.{statement}
 use Rattle.codec.proofs.mode.mode_text.Tie as tie
-use Rattle.codec.proofs.mode.mode_text.Reads as reads
-use Rattle.codec.proofs.mode.mode_text.Lts as lts
-use Rattle.codec.proofs.refusal.outside.Reads as outside-reads
-use Rattle.codec.proofs.refusal.wrong_size.Reads as wrong-size-reads
 
--- src/mode.rt:47:9
 wrong-size-requires : tie.Need-wrong-size-requires
 wrong-size-requires c κs = search needs
 
--- src/mode.rt:47:9
 returns : tie.Need-returns
 unfolding decodeForm layout littleEndian
 returns c = simp (c .wrong-size .ensures, lt-leb _ _ (c .before .if1 .taken))
 
--- src/mode.rt:50:9
 wrong-size-requires-2 : tie.Need-wrong-size-requires-2
 wrong-size-requires-2 c κs = search needs
 
--- src/mode.rt:50:9
 returns-2 : tie.Need-returns-2
 unfolding decodeForm layout littleEndian
 returns-2 c = simp (c .wrong-size2 .ensures, lt-leb _ _ (c .before .if2 .taken), le-leb _ _ (c .before .before .if1 .left), ← c .before .before .before .before .pre)
 
--- src/mode.rt:52:16
 shared-slice-read-mode : tie.Need-shared-slice-read-mode
 shared-slice-read-mode c = search needs
 
--- src/mode.rt:54:9
 outside-requires : tie.Need-outside-requires
 outside-requires c κs = search needs
 
--- src/mode.rt:54:9
 returns-3 : tie.Need-returns-3
 unfolding decodeForm layout littleEndian
 returns-3 c = simp (c .outside .ensures, lt-leb _ _ (c .before .if3 .taken), le-leb _ _ (c .before .before .before .if2 .left), le-leb _ _ (c .before .before .before .before .if1 .left), ← c .before .before .before .before .before .before .pre)
 
--- src/mode.rt:57:15
 shared-slice-read-t7 : tie.Need-shared-slice-read-t7
 shared-slice-read-t7 c = search needs
 
--- src/mode.rt:59:22
 shared-slice-read-t10 : tie.Need-shared-slice-read-t10
 shared-slice-read-t10 c = search needs
 
--- src/mode.rt:42:1
 returns-4 : tie.Need-returns-4
 unfolding decodeForm layout littleEndian
 returns-4 c = simp (le-leb _ _ (c .before .before .if3 .left), le-leb _ _ (c .before .before .before .before .if2 .left), le-leb _ _ (c .before .before .before .before .before .if1 .left), ← c .before .before .before .before .before .before .before .pre)

@@ -7,118 +7,85 @@ use borrow.Author.Tests.{le-ltb, ne-eqb}
 use borrow.Author.Needs.{needs}
 use Rattle.codec.proofs.mode.port_mode_information.Statement.{statement}
 use Rattle.codec.proofs.mode.port_mode_information.Tie as tie
-use Rattle.codec.proofs.mode.port_mode_information.Reads as reads
-use Rattle.codec.proofs.mode.port_mode_information.Lts as lts
-use Rattle.codec.proofs.mode.mode_bias.Reads as mode-bias-reads
-use Rattle.codec.proofs.mode.mode_capabilities.Reads as mode-capabilities-reads
-use Rattle.codec.proofs.mode.mode_mapping.Reads as mode-mapping-reads
-use Rattle.codec.proofs.mode.mode_range.Reads as mode-range-reads
-use Rattle.codec.proofs.mode.mode_text.Reads as mode-text-reads
-use Rattle.codec.proofs.mode.value_format.Reads as value-format-reads
-use Rattle.codec.proofs.refusal.outside.Reads as outside-reads
-use Rattle.codec.proofs.refusal.wrong_size.Reads as wrong-size-reads
 
--- src/mode.rt:23:9
 wrong-size-requires : tie.Need-wrong-size-requires
 wrong-size-requires c κs = search needs
 
--- src/mode.rt:23:9
 returns : tie.Need-returns
 unfolding portModeInformation
 returns c = c .wrong-size .ensures ∙ sym (too-short portModeInformation _ (c .before .if1 .taken))
 
--- src/mode.rt:25:23
 shared-slice-read-information : tie.Need-shared-slice-read-information
 shared-slice-read-information c = search needs
 
--- src/mode.rt:27:14
 mode-text-requires : tie.Need-mode-text-requires
 unfolding longestModeText
 mode-text-requires c κs = rw (c .match .keys1)
 
--- src/mode.rt:28:14
 mode-text-requires-2 : tie.Need-mode-text-requires-2
 unfolding longestModeText
 mode-text-requires-2 c κs = rw (c .match .keys2)
 
--- src/mode.rt:29:14
 mode-range-requires : tie.Need-mode-range-requires
 mode-range-requires c κs = search needs
 
--- src/mode.rt:30:14
 mode-range-requires-2 : tie.Need-mode-range-requires-2
 mode-range-requires-2 c κs = search needs
 
--- src/mode.rt:31:14
 mode-range-requires-3 : tie.Need-mode-range-requires-3
 mode-range-requires-3 c κs = search needs
 
--- src/mode.rt:32:14
 mode-mapping-requires : tie.Need-mode-mapping-requires
 mode-mapping-requires c κs = search needs
 
--- src/mode.rt:33:14
 mode-bias-requires : tie.Need-mode-bias-requires
 mode-bias-requires c κs = search needs
 
--- src/mode.rt:34:14
 mode-capabilities-requires : tie.Need-mode-capabilities-requires
 mode-capabilities-requires c κs = search needs
 
--- src/mode.rt:35:17
 value-format-requires : tie.Need-value-format-requires
 value-format-requires c κs = search needs
 
--- src/mode.rt:36:14
 outside-requires : tie.Need-outside-requires
 outside-requires c κs = search needs
 
--- src/mode.rt:19:1
 returns-2 : tie.Need-returns-2
 unfolding portModeInformation decodeType
 returns-2 c = simp (c .mode-text .ensures, le-ltb _ _ (c .before .before .before .if1 .left), c .before .match .keys1)
 
--- src/mode.rt:19:1
 returns-3 : tie.Need-returns-3
 unfolding portModeInformation decodeType
 returns-3 c = simp (c .mode-text2 .ensures, le-ltb _ _ (c .before .before .before .if1 .left), c .before .match .keys2)
 
--- src/mode.rt:19:1
 returns-4 : tie.Need-returns-4
 unfolding portModeInformation decodeType
 returns-4 c = simp (c .mode-range .ensures, le-ltb _ _ (c .before .before .before .if1 .left), c .before .match .keys3)
 
--- src/mode.rt:19:1
 returns-5 : tie.Need-returns-5
 unfolding portModeInformation decodeType
 returns-5 c = simp (c .mode-range2 .ensures, le-ltb _ _ (c .before .before .before .if1 .left), c .before .match .keys4)
 
--- src/mode.rt:19:1
 returns-6 : tie.Need-returns-6
 unfolding portModeInformation decodeType
 returns-6 c = simp (c .mode-range3 .ensures, le-ltb _ _ (c .before .before .before .if1 .left), c .before .match .keys5)
 
--- src/mode.rt:19:1
 returns-7 : tie.Need-returns-7
 unfolding portModeInformation decodeType
 returns-7 c = simp (c .mode-mapping .ensures, le-ltb _ _ (c .before .before .before .if1 .left), c .before .match .keys6)
 
--- src/mode.rt:19:1
 returns-8 : tie.Need-returns-8
 unfolding portModeInformation decodeType
 returns-8 c = simp (c .mode-bias .ensures, le-ltb _ _ (c .before .before .before .if1 .left), c .before .match .keys7)
 
--- src/mode.rt:19:1
 returns-9 : tie.Need-returns-9
 unfolding portModeInformation decodeType
 returns-9 c = simp (c .mode-capabilities .ensures, le-ltb _ _ (c .before .before .before .if1 .left), c .before .match .keys8)
 
--- src/mode.rt:19:1
 returns-10 : tie.Need-returns-10
 unfolding portModeInformation decodeType
 returns-10 c = simp (c .value-format .ensures, le-ltb _ _ (c .before .before .before .if1 .left), c .before .match .keys9)
 
--- src/mode.rt:19:1
 returns-11 : tie.Need-returns-11
 unfolding portModeInformation decodeType
 returns-11 c = simp (c .outside .ensures, le-ltb _ _ (c .before .before .before .if1 .left), ne-eqb _ _ (c .before .match .rest .0 .0 .0 .0 .0 .0 .0 .0 .1), ne-eqb _ _ (c .before .match .rest .0 .0 .0 .0 .0 .0 .0 .1), ne-eqb _ _ (c .before .match .rest .0 .0 .0 .0 .0 .0 .1), ne-eqb _ _ (c .before .match .rest .0 .0 .0 .0 .0 .1), ne-eqb _ _ (c .before .match .rest .0 .0 .0 .0 .1), ne-eqb _ _ (c .before .match .rest .0 .0 .0 .1), ne-eqb _ _ (c .before .match .rest .0 .0 .1), ne-eqb _ _ (c .before .match .rest .0 .1), ne-eqb _ _ (c .before .match .rest .1))

@@ -6,77 +6,56 @@ use Rattle.protocol.specs.Decode.{decodeForm}
 use borrow.Author.Needs.{needs}
 use Rattle.codec.proofs.mode.value_format.Statement.{statement}
 use Rattle.codec.proofs.mode.value_format.Tie as tie
-use Rattle.codec.proofs.mode.value_format.Reads as reads
-use Rattle.codec.proofs.mode.value_format.Lts as lts
-use Rattle.codec.proofs.refusal.outside.Reads as outside-reads
-use Rattle.codec.proofs.refusal.wrong_size.Reads as wrong-size-reads
-use Rattle.codec.proofs.rule.between.Reads as between-reads
 
--- src/mode.rt:151:9
 wrong-size-requires : tie.Need-wrong-size-requires
 wrong-size-requires c κs = search needs
 
--- src/mode.rt:151:9
 returns : tie.Need-returns
 unfolding decodeForm layout littleEndian
 returns c = simp (c .wrong-size .ensures, ne-eqb _ _ (c .before .if1 .taken))
 
--- src/mode.rt:153:16
 shared-slice-read-mode : tie.Need-shared-slice-read-mode
 shared-slice-read-mode c = search needs
 
--- src/mode.rt:155:9
 outside-requires : tie.Need-outside-requires
 outside-requires c κs = search needs
 
--- src/mode.rt:155:9
 returns-2 : tie.Need-returns-2
 unfolding decodeForm layout littleEndian
 returns-2 c = simp (c .outside .ensures, lt-leb _ _ (c .before .if2 .taken), eq-eqb _ _ (c .before .before .before .if1 .left))
 
--- src/mode.rt:157:20
 shared-slice-read-datasets : tie.Need-shared-slice-read-datasets
 shared-slice-read-datasets c = search needs
 
--- src/mode.rt:158:9
 between-requires : tie.Need-between-requires
 between-requires c κs = search needs
 
--- src/mode.rt:159:9
 outside-requires-2 : tie.Need-outside-requires-2
 outside-requires-2 c κs = search needs
 
--- src/mode.rt:159:9
 returns-3 : tie.Need-returns-3
 unfolding decodeForm layout littleEndian
 returns-3 c = simp (c .outside2 .ensures, sym (c .before .before .between .ensures) ∙ not-true _ (c .before .if3 .taken), le-leb _ _ (c .before .before .before .before .if2 .left), eq-eqb _ _ (c .before .before .before .before .before .before .if1 .left))
 
--- src/mode.rt:161:16
 shared-slice-read-kind : tie.Need-shared-slice-read-kind
 shared-slice-read-kind c = search needs
 
--- src/mode.rt:163:9
 outside-requires-3 : tie.Need-outside-requires-3
 outside-requires-3 c κs = search needs
 
--- src/mode.rt:163:9
 returns-4 : tie.Need-returns-4
 unfolding decodeForm layout littleEndian
 returns-4 c = simp (c .outside3 .ensures, lt-leb _ _ (c .before .if4 .taken), sym (c .before .before .before .before .between .ensures) ∙ not-false _ (c .before .before .before .if3 .left), le-leb _ _ (c .before .before .before .before .before .before .if2 .left), eq-eqb _ _ (c .before .before .before .before .before .before .before .before .if1 .left))
 
--- src/mode.rt:166:15
 shared-slice-read-t8 : tie.Need-shared-slice-read-t8
 shared-slice-read-t8 c = search needs
 
--- src/mode.rt:170:18
 shared-slice-read-t14 : tie.Need-shared-slice-read-t14
 shared-slice-read-t14 c = search needs
 
--- src/mode.rt:171:19
 shared-slice-read-t16 : tie.Need-shared-slice-read-t16
 shared-slice-read-t16 c = search needs
 
--- src/mode.rt:146:1
 returns-5 : tie.Need-returns-5
 unfolding decodeForm layout littleEndian
 returns-5 c = simp (le-leb _ _ (c .before .before .before .if4 .left), sym (c .before .before .before .before .before .before .between .ensures) ∙ not-false _ (c .before .before .before .before .before .if3 .left), le-leb _ _ (c .before .before .before .before .before .before .before .before .if2 .left), eq-eqb _ _ (c .before .before .before .before .before .before .before .before .before .before .if1 .left), c .before .before .before .before .before .before .before .before .before .before .before .before .pre)

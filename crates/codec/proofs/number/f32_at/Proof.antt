@@ -4,19 +4,13 @@ use mathlib.Core.Path.{ap}
 use borrow.Author.Needs.{needs}
 use Rattle.codec.proofs.number.f32_at.Statement.{statement}
 use Rattle.codec.proofs.number.f32_at.Tie as tie
-use Rattle.codec.proofs.number.f32_at.Reads as reads
-use Rattle.codec.proofs.number.f32_at.Lts as lts
-use Rattle.codec.proofs.number.u32_at.Reads as u32-at-reads
 
--- src/number.rt:89:9
 u32-at-requires : tie.Need-u32-at-requires
 u32-at-requires c κs = search needs
 
--- src/number.rt:90:5
 float-from-bits-result : tie.Need-float-from-bits-result
 float-from-bits-result c = finite-bits-not-nan (c .u32-at .result) (rw (c .u32-at .ensures) (c .before .before .pre .1))
 
--- src/number.rt:85:1
 returns : tie.Need-returns
 returns c = ap (ofBits binary32) (c .u32-at .ensures)
 

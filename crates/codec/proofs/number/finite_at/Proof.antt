@@ -6,15 +6,10 @@ use Prim.Native.Nat.{ℕ}
 use borrow.Author.Needs.{needs}
 use Rattle.codec.proofs.number.finite_at.Statement.{statement}
 use Rattle.codec.proofs.number.finite_at.Tie as tie
-use Rattle.codec.proofs.number.finite_at.Reads as reads
-use Rattle.codec.proofs.number.finite_at.Lts as lts
-use Rattle.codec.proofs.number.u32_at.Reads as u32-at-reads
 
--- src/number.rt:80:9
 u32-at-requires : tie.Need-u32-at-requires
 u32-at-requires c κs = search needs
 
--- src/number.rt:76:1
 returns : tie.Need-returns
 returns c = sym (finite-bits (c .u32-at .result)) ∙ ap (λ (n : ℕ). isFinite (ofBits binary32 n)) (c .u32-at .ensures)
 

@@ -2,31 +2,24 @@ use Prim.Native.Nat.{_-_}
 use borrow.Author.Tests.{le-ltb}
 use Rattle.protocol.proofs.Signed.{upper-half}
 use mir.Facts.{toZ-pos, toZ-neg}
-use mir.Syntax.{w8, w32}
+use mir.Syntax.{w8}
 use native.Mathlib.Omega.{arith}
 use borrow.Author.Needs.{needs}
 use Rattle.codec.proofs.number.i8_of.Statement.{statement}
 use Rattle.codec.proofs.number.i8_of.Tie as tie
-use Rattle.codec.proofs.number.i8_of.Reads as reads
-use Rattle.codec.proofs.number.i8_of.Lts as lts
 
--- src/number.rt:58:9
 cast-result : tie.Need-cast-result
 cast-result c = search needs
 
--- src/number.rt:60:10
 cast-result-2 : tie.Need-cast-result-2
 cast-result-2 c = search needs
 
--- src/number.rt:60:9
 add-result : tie.Need-add-result
 add-result c = rw (toZ-pos w8 {n = c .before .args .n - 128} (omega arith), upper-half 128 (c .before .args .n) (c .if1 .left) (omega (arith, c .before .fits .n))) (record { sfits = omega arith })
 
--- src/number.rt:54:1
 returns : tie.Need-returns
 returns c = search needs
 
--- src/number.rt:54:1
 returns-2 : tie.Need-returns-2
 returns-2 c = rw (toZ-pos w8 {n = c .before .args .n - 128} (omega arith), upper-half 128 (c .before .args .n) (c .if1 .left) (omega (arith, c .before .fits .n)), le-ltb _ _ (c .if1 .left)) (toZ-neg w8 _ (omega arith))
 

@@ -4,47 +4,34 @@ use Rattle.protocol.specs.Number.{bigEndian}
 use borrow.Author.Needs.{needs}
 use Rattle.codec.proofs.number.u24_at.Statement.{statement}
 use Rattle.codec.proofs.number.u24_at.Tie as tie
-use Rattle.codec.proofs.number.u24_at.Reads as reads
-use Rattle.codec.proofs.number.u24_at.Lts as lts
-use Rattle.codec.proofs.number.byte.Reads as byte-reads
 
--- src/number.rt:44:9
 byte-requires : tie.Need-byte-requires
 byte-requires c κs = search needs
 
--- src/number.rt:45:22
 add-byte : tie.Need-add-byte
 add-byte c = search needs
 
--- src/number.rt:45:9
 byte-requires-2 : tie.Need-byte-requires-2
 byte-requires-2 c κs = search needs
 
--- src/number.rt:46:22
 add-byte-2 : tie.Need-add-byte-2
 add-byte-2 c = search needs
 
--- src/number.rt:46:9
 byte-requires-3 : tie.Need-byte-requires-3
 byte-requires-3 c κs = search needs
 
--- src/number.rt:47:6
 mul-result : tie.Need-mul-result
 mul-result c = search needs
 
--- src/number.rt:47:6
 add-result : tie.Need-add-result
 add-result c = search needs
 
--- src/number.rt:47:5
 mul-result-2 : tie.Need-mul-result-2
 mul-result-2 c = search needs
 
--- src/number.rt:47:5
 add-result-2 : tie.Need-add-result-2
 add-result-2 c = search needs
 
--- src/number.rt:40:1
 returns : tie.Need-returns
 unfolding bigEndian
 returns c = (simp (c .before .before .byte .ensures .0, c .before .byte2 .ensures .0, c .byte3 .ensures .0, add-assoc) (omega arith), omega arith)

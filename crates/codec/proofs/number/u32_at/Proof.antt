@@ -3,63 +3,46 @@ use native.Mathlib.Nat.{add-assoc}
 use borrow.Author.Needs.{needs}
 use Rattle.codec.proofs.number.u32_at.Statement.{statement}
 use Rattle.codec.proofs.number.u32_at.Tie as tie
-use Rattle.codec.proofs.number.u32_at.Reads as reads
-use Rattle.codec.proofs.number.u32_at.Lts as lts
-use Rattle.codec.proofs.number.byte.Reads as byte-reads
 
--- src/number.rt:32:9
 byte-requires : tie.Need-byte-requires
 byte-requires c κs = search needs
 
--- src/number.rt:33:22
 add-byte : tie.Need-add-byte
 add-byte c = search needs
 
--- src/number.rt:33:9
 byte-requires-2 : tie.Need-byte-requires-2
 byte-requires-2 c κs = search needs
 
--- src/number.rt:34:22
 add-byte-2 : tie.Need-add-byte-2
 add-byte-2 c = search needs
 
--- src/number.rt:34:9
 byte-requires-3 : tie.Need-byte-requires-3
 byte-requires-3 c κs = search needs
 
--- src/number.rt:35:22
 add-byte-3 : tie.Need-add-byte-3
 add-byte-3 c = search needs
 
--- src/number.rt:35:9
 byte-requires-4 : tie.Need-byte-requires-4
 byte-requires-4 c κs = search needs
 
--- src/number.rt:36:34
 mul-result : tie.Need-mul-result
 mul-result c = search needs
 
--- src/number.rt:36:29
 add-result : tie.Need-add-result
 add-result c = search needs
 
--- src/number.rt:36:22
 mul-result-2 : tie.Need-mul-result-2
 mul-result-2 c = search needs
 
--- src/number.rt:36:17
 add-result-2 : tie.Need-add-result-2
 add-result-2 c = search needs
 
--- src/number.rt:36:10
 mul-result-3 : tie.Need-mul-result-3
 mul-result-3 c = search needs
 
--- src/number.rt:36:5
 add-result-3 : tie.Need-add-result-3
 add-result-3 c = search needs
 
--- src/number.rt:28:1
 returns : tie.Need-returns
 unfolding littleEndian
 returns c = simp (c .before .before .before .byte .ensures .0, c .before .before .byte2 .ensures .0, c .before .byte3 .ensures .0, c .byte4 .ensures .0, add-assoc)

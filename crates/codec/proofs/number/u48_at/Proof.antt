@@ -4,39 +4,28 @@ use Rattle.protocol.specs.Number.{bigEndian}
 use borrow.Author.Needs.{needs}
 use Rattle.codec.proofs.number.u48_at.Statement.{statement}
 use Rattle.codec.proofs.number.u48_at.Tie as tie
-use Rattle.codec.proofs.number.u48_at.Reads as reads
-use Rattle.codec.proofs.number.u48_at.Lts as lts
-use Rattle.codec.proofs.number.u24_at.Reads as u24-at-reads
 
--- src/number.rt:55:16
 u24-at-requires : tie.Need-u24-at-requires
 u24-at-requires c κs = search needs
 
--- src/number.rt:55:16
 cast-high : tie.Need-cast-high
 cast-high c = search needs
 
--- src/number.rt:56:25
 add-u24-at : tie.Need-add-u24-at
 add-u24-at c = search needs
 
--- src/number.rt:56:15
 u24-at-requires-2 : tie.Need-u24-at-requires-2
 u24-at-requires-2 c κs = search needs
 
--- src/number.rt:56:15
 cast-low : tie.Need-cast-low
 cast-low c = search needs
 
--- src/number.rt:57:5
 mul-result : tie.Need-mul-result
 mul-result c = search needs
 
--- src/number.rt:57:5
 add-result : tie.Need-add-result
 add-result c = search needs
 
--- src/number.rt:51:1
 returns : tie.Need-returns
 unfolding bigEndian
 returns c = simp (c .before .u24-at .ensures .0, c .u24-at2 .ensures .0, add-assoc) (omega arith)

@@ -7,47 +7,32 @@ use Rattle.protocol.specs.Form.{layout}
 use Rattle.protocol.specs.Decode.{decodeForm}
 use Rattle.codec.proofs.port.attached.Statement.{statement}
 use Rattle.codec.proofs.port.attached.Tie as tie
-use Rattle.codec.proofs.port.attached.Reads as reads
-use Rattle.codec.proofs.port.attached.Lts as lts
-use Rattle.codec.proofs.number.i32_of.Reads as i32-of-reads
-use Rattle.codec.proofs.number.u16_at.Reads as u16-at-reads
-use Rattle.codec.proofs.number.u32_at.Reads as u32-at-reads
-use Rattle.codec.proofs.refusal.wrong_size.Reads as wrong-size-reads
 
--- src/port.rt:44:9
 wrong-size-requires : tie.Need-wrong-size-requires
 wrong-size-requires c κs = search needs
 
--- src/port.rt:44:9
 returns : tie.Need-returns
 unfolding decodeForm layout littleEndian
 returns c = simp (c .wrong-size .ensures, ne-eqb _ _ (c .before .if1 .taken), c .before .before .before .pre)
 
--- src/port.rt:47:15
 shared-slice-read-t5 : tie.Need-shared-slice-read-t5
 shared-slice-read-t5 c = search needs
 
--- src/port.rt:48:17
 u16-at-requires : tie.Need-u16-at-requires
 u16-at-requires c κs = search needs
 
--- src/port.rt:49:26
 u32-at-requires : tie.Need-u32-at-requires
 u32-at-requires c κs = search needs
 
--- src/port.rt:49:19
 i32-of-requires : tie.Need-i32-of-requires
 i32-of-requires c κs = search needs
 
--- src/port.rt:50:26
 u32-at-requires-2 : tie.Need-u32-at-requires-2
 u32-at-requires-2 c κs = search needs
 
--- src/port.rt:50:19
 i32-of-requires-2 : tie.Need-i32-of-requires-2
 i32-of-requires-2 c κs = search needs
 
--- src/port.rt:39:1
 returns-2 : tie.Need-returns-2
 unfolding decodeForm layout littleEndian
 returns-2 c = rw (toZ-ofZ {w = w32} {z = c .i32-of2 .result} (record { sfits = c .i32-of2 .ok }), toZ-ofZ {w = w32} {z = c .before .before .i32-of .result} (record { sfits = c .before .before .i32-of .ok })) (simp (c .i32-of2 .ensures, c .before .u32-at2 .ensures, c .before .before .i32-of .ensures, c .before .before .before .u32-at .ensures, c .before .before .before .before .u16-at .ensures, eq-eqb _ _ (c .before .before .before .before .before .before .if1 .left), c .before .before .before .before .before .before .before .before .pre))

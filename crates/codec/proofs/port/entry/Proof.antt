@@ -3,28 +3,20 @@ use Rattle.protocol.specs.Form.{word}
 use borrow.Author.Needs.{needs}
 use Rattle.codec.proofs.port.entry.Statement.{statement}
 use Rattle.codec.proofs.port.entry.Tie as tie
-use Rattle.codec.proofs.port.entry.Reads as reads
-use Rattle.codec.proofs.port.entry.Lts as lts
-use Rattle.codec.proofs.number.u16_at.Reads as u16-at-reads
 
--- src/port.rt:186:34
 mul-u16-at : tie.Need-mul-u16-at
 mul-u16-at c = search needs
 
--- src/port.rt:186:30
 add-u16-at : tie.Need-add-u16-at
 add-u16-at c = search needs
 
--- src/port.rt:186:20
 u16-at-requires : tie.Need-u16-at-requires
 u16-at-requires c κs = search needs
 
--- src/port.rt:182:1
 returns : tie.Need-returns
 unfolding word
 returns c = simp (c .u16-at .ensures, lt-ltb _ _ (c .before .if1 .taken))
 
--- src/port.rt:182:1
 returns-2 : tie.Need-returns-2
 unfolding word
 returns-2 c = simp (le-ltb _ _ (c .if1 .left))

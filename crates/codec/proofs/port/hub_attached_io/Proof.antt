@@ -6,59 +6,41 @@ use mathlib.Core.Path.{sym, _∙_}
 use borrow.Author.Needs.{needs}
 use Rattle.codec.proofs.port.hub_attached_io.Statement.{statement}
 use Rattle.codec.proofs.port.hub_attached_io.Tie as tie
-use Rattle.codec.proofs.port.hub_attached_io.Reads as reads
-use Rattle.codec.proofs.port.hub_attached_io.Lts as lts
-use Rattle.codec.proofs.port.attached.Reads as attached-reads
-use Rattle.codec.proofs.port.attached_virtual.Reads as attached-virtual-reads
-use Rattle.codec.proofs.port.detached.Reads as detached-reads
-use Rattle.codec.proofs.refusal.outside.Reads as outside-reads
-use Rattle.codec.proofs.refusal.wrong_size.Reads as wrong-size-reads
 
--- src/port.rt:18:9
 wrong-size-requires : tie.Need-wrong-size-requires
 wrong-size-requires c κs = search needs
 
--- src/port.rt:18:9
 returns : tie.Need-returns
 unfolding hubAttachedIo
 returns c = c .wrong-size .ensures ∙ sym (too-short hubAttachedIo _ (c .before .if1 .taken))
 
--- src/port.rt:20:17
 shared-slice-read-event : tie.Need-shared-slice-read-event
 shared-slice-read-event c = search needs
 
--- src/port.rt:22:14
 detached-requires : tie.Need-detached-requires
 detached-requires c κs = search needs
 
--- src/port.rt:23:14
 attached-requires : tie.Need-attached-requires
 attached-requires c κs = search needs
 
--- src/port.rt:24:14
 attached-virtual-requires : tie.Need-attached-virtual-requires
 attached-virtual-requires c κs = search needs
 
--- src/port.rt:25:14
 outside-requires : tie.Need-outside-requires
 outside-requires c κs = search needs
 
--- src/port.rt:14:1
 returns-2 : tie.Need-returns-2
 unfolding hubAttachedIo decodeType
 returns-2 c = simp (c .detached .ensures, le-ltb _ _ (c .before .before .before .if1 .left), c .before .match .keys1)
 
--- src/port.rt:14:1
 returns-3 : tie.Need-returns-3
 unfolding hubAttachedIo decodeType
 returns-3 c = simp (c .attached .ensures, le-ltb _ _ (c .before .before .before .if1 .left), c .before .match .keys2)
 
--- src/port.rt:14:1
 returns-4 : tie.Need-returns-4
 unfolding hubAttachedIo decodeType
 returns-4 c = simp (c .attached-virtual .ensures, le-ltb _ _ (c .before .before .before .if1 .left), c .before .match .keys3)
 
--- src/port.rt:14:1
 returns-5 : tie.Need-returns-5
 unfolding hubAttachedIo decodeType
 returns-5 c = simp (c .outside .ensures, le-ltb _ _ (c .before .before .before .if1 .left), ne-eqb _ _ (c .before .match .rest .0 .0 .1), ne-eqb _ _ (c .before .match .rest .0 .1), ne-eqb _ _ (c .before .match .rest .1))

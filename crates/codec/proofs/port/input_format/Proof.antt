@@ -5,56 +5,40 @@ use Rattle.protocol.specs.Decode.{decodeForm}
 use borrow.Author.Needs.{needs}
 use Rattle.codec.proofs.port.input_format.Statement.{statement}
 use Rattle.codec.proofs.port.input_format.Tie as tie
-use Rattle.codec.proofs.port.input_format.Reads as reads
-use Rattle.codec.proofs.port.input_format.Lts as lts
-use Rattle.codec.proofs.number.u32_at.Reads as u32-at-reads
-use Rattle.codec.proofs.refusal.outside.Reads as outside-reads
-use Rattle.codec.proofs.refusal.wrong_size.Reads as wrong-size-reads
 
--- src/port.rt:243:9
 wrong-size-requires : tie.Need-wrong-size-requires
 wrong-size-requires c κs = search needs
 
--- src/port.rt:243:9
 returns : tie.Need-returns
 unfolding decodeForm layout littleEndian
 returns c = simp (c .wrong-size .ensures, ne-eqb _ _ (c .before .if1 .taken))
 
--- src/port.rt:245:16
 shared-slice-read-mode : tie.Need-shared-slice-read-mode
 shared-slice-read-mode c = search needs
 
--- src/port.rt:247:9
 outside-requires : tie.Need-outside-requires
 outside-requires c κs = search needs
 
--- src/port.rt:247:9
 returns-2 : tie.Need-returns-2
 unfolding decodeForm layout littleEndian
 returns-2 c = simp (c .outside .ensures, lt-leb _ _ (c .before .if2 .taken), eq-eqb _ _ (c .before .before .before .if1 .left))
 
--- src/port.rt:249:18
 shared-slice-read-notify : tie.Need-shared-slice-read-notify
 shared-slice-read-notify c = search needs
 
--- src/port.rt:251:9
 outside-requires-2 : tie.Need-outside-requires-2
 outside-requires-2 c κs = search needs
 
--- src/port.rt:251:9
 returns-3 : tie.Need-returns-3
 unfolding decodeForm layout littleEndian
 returns-3 c = simp (c .outside2 .ensures, lt-leb _ _ (c .before .if3 .taken), le-leb _ _ (c .before .before .before .if2 .left), eq-eqb _ _ (c .before .before .before .before .before .if1 .left))
 
--- src/port.rt:254:15
 shared-slice-read-t7 : tie.Need-shared-slice-read-t7
 shared-slice-read-t7 c = search needs
 
--- src/port.rt:256:16
 u32-at-requires : tie.Need-u32-at-requires
 u32-at-requires c κs = search needs
 
--- src/port.rt:239:1
 returns-4 : tie.Need-returns-4
 unfolding decodeForm layout littleEndian
 returns-4 c = simp (c .u32-at .ensures, le-leb _ _ (c .before .before .if3 .left), le-leb _ _ (c .before .before .before .before .if2 .left), eq-eqb _ _ (c .before .before .before .before .before .before .if1 .left))

@@ -6,56 +6,40 @@ use Rattle.protocol.specs.Decode.{decodeForm}
 use borrow.Author.Needs.{needs}
 use Rattle.codec.proofs.port.mode_information_request.Statement.{statement}
 use Rattle.codec.proofs.port.mode_information_request.Tie as tie
-use Rattle.codec.proofs.port.mode_information_request.Reads as reads
-use Rattle.codec.proofs.port.mode_information_request.Lts as lts
-use Rattle.codec.proofs.port.is_information_type.Reads as is-information-type-reads
-use Rattle.codec.proofs.refusal.outside.Reads as outside-reads
-use Rattle.codec.proofs.refusal.wrong_size.Reads as wrong-size-reads
 
--- src/port.rt:111:9
 wrong-size-requires : tie.Need-wrong-size-requires
 wrong-size-requires c κs = search needs
 
--- src/port.rt:111:9
 returns : tie.Need-returns
 unfolding decodeForm layout littleEndian
 returns c = simp (c .wrong-size .ensures, ne-eqb _ _ (c .before .if1 .taken))
 
--- src/port.rt:113:16
 shared-slice-read-mode : tie.Need-shared-slice-read-mode
 shared-slice-read-mode c = search needs
 
--- src/port.rt:115:9
 outside-requires : tie.Need-outside-requires
 outside-requires c κs = search needs
 
--- src/port.rt:115:9
 returns-2 : tie.Need-returns-2
 unfolding decodeForm layout littleEndian
 returns-2 c = simp (c .outside .ensures, lt-leb _ _ (c .before .if2 .taken), eq-eqb _ _ (c .before .before .before .if1 .left))
 
--- src/port.rt:117:23
 shared-slice-read-information : tie.Need-shared-slice-read-information
 shared-slice-read-information c = search needs
 
--- src/port.rt:118:9
 is-information-type-requires : tie.Need-is-information-type-requires
 is-information-type-requires c κs = search needs
 
--- src/port.rt:119:9
 outside-requires-2 : tie.Need-outside-requires-2
 outside-requires-2 c κs = search needs
 
--- src/port.rt:119:9
 returns-3 : tie.Need-returns-3
 unfolding decodeForm layout littleEndian
 returns-3 c = simp (c .outside2 .ensures, sym (c .before .before .is-information-type .ensures) ∙ not-true _ (c .before .if3 .taken), le-leb _ _ (c .before .before .before .before .if2 .left), eq-eqb _ _ (c .before .before .before .before .before .before .if1 .left))
 
--- src/port.rt:122:15
 shared-slice-read-t7 : tie.Need-shared-slice-read-t7
 shared-slice-read-t7 c = search needs
 
--- src/port.rt:107:1
 returns-4 : tie.Need-returns-4
 unfolding decodeForm layout littleEndian
 returns-4 c = simp (sym (c .before .before .is-information-type .ensures) ∙ not-false _ (c .before .if3 .left), le-leb _ _ (c .before .before .before .before .if2 .left), eq-eqb _ _ (c .before .before .before .before .before .before .if1 .left))

@@ -6,49 +6,34 @@ use borrow.Author.Tests.{le-ltb, ne-eqb}
 use borrow.Author.Needs.{needs}
 use Rattle.codec.proofs.port.port_information.Statement.{statement}
 use Rattle.codec.proofs.port.port_information.Tie as tie
-use Rattle.codec.proofs.port.port_information.Reads as reads
-use Rattle.codec.proofs.port.port_information.Lts as lts
-use Rattle.codec.proofs.port.port_combinations.Reads as port-combinations-reads
-use Rattle.codec.proofs.port.port_modes.Reads as port-modes-reads
-use Rattle.codec.proofs.refusal.outside.Reads as outside-reads
-use Rattle.codec.proofs.refusal.wrong_size.Reads as wrong-size-reads
 
--- src/port.rt:152:9
 wrong-size-requires : tie.Need-wrong-size-requires
 wrong-size-requires c κs = search needs
 
--- src/port.rt:152:9
 returns : tie.Need-returns
 unfolding portInformation
 returns c = c .wrong-size .ensures ∙ sym (too-short portInformation _ (c .before .if1 .taken))
 
--- src/port.rt:154:23
 shared-slice-read-information : tie.Need-shared-slice-read-information
 shared-slice-read-information c = search needs
 
--- src/port.rt:156:14
 port-modes-requires : tie.Need-port-modes-requires
 port-modes-requires c κs = search needs
 
--- src/port.rt:157:14
 port-combinations-requires : tie.Need-port-combinations-requires
 port-combinations-requires c κs = search needs
 
--- src/port.rt:158:14
 outside-requires : tie.Need-outside-requires
 outside-requires c κs = search needs
 
--- src/port.rt:148:1
 returns-2 : tie.Need-returns-2
 unfolding portInformation decodeType
 returns-2 c = simp (c .port-modes .ensures, le-ltb _ _ (c .before .before .before .if1 .left), c .before .match .keys1)
 
--- src/port.rt:148:1
 returns-3 : tie.Need-returns-3
 unfolding portInformation decodeType
 returns-3 c = simp (c .port-combinations .ensures, le-ltb _ _ (c .before .before .before .if1 .left), c .before .match .keys2)
 
--- src/port.rt:148:1
 returns-4 : tie.Need-returns-4
 unfolding portInformation decodeType
 returns-4 c = simp (c .outside .ensures, le-ltb _ _ (c .before .before .before .if1 .left), ne-eqb _ _ (c .before .match .rest .0 .1), ne-eqb _ _ (c .before .match .rest .1))

@@ -5,38 +5,27 @@ use Rattle.protocol.specs.Decode.{decodeForm}
 use borrow.Author.Needs.{needs}
 use Rattle.codec.proofs.port.port_information_request.Statement.{statement}
 use Rattle.codec.proofs.port.port_information_request.Tie as tie
-use Rattle.codec.proofs.port.port_information_request.Reads as reads
-use Rattle.codec.proofs.port.port_information_request.Lts as lts
-use Rattle.codec.proofs.refusal.outside.Reads as outside-reads
-use Rattle.codec.proofs.refusal.wrong_size.Reads as wrong-size-reads
 
--- src/port.rt:79:9
 wrong-size-requires : tie.Need-wrong-size-requires
 wrong-size-requires c κs = search needs
 
--- src/port.rt:79:9
 returns : tie.Need-returns
 unfolding decodeForm layout littleEndian
 returns c = simp (c .wrong-size .ensures, ne-eqb _ _ (c .before .if1 .taken))
 
--- src/port.rt:81:23
 shared-slice-read-information : tie.Need-shared-slice-read-information
 shared-slice-read-information c = search needs
 
--- src/port.rt:83:9
 outside-requires : tie.Need-outside-requires
 outside-requires c κs = search needs
 
--- src/port.rt:83:9
 returns-2 : tie.Need-returns-2
 unfolding decodeForm layout littleEndian
 returns-2 c = simp (c .outside .ensures, lt-leb _ _ (c .before .if2 .taken), eq-eqb _ _ (c .before .before .before .if1 .left))
 
--- src/port.rt:86:15
 shared-slice-read-t6 : tie.Need-shared-slice-read-t6
 shared-slice-read-t6 c = search needs
 
--- src/port.rt:75:1
 returns-3 : tie.Need-returns-3
 unfolding decodeForm layout littleEndian
 returns-3 c = simp (le-leb _ _ (c .before .if2 .left), eq-eqb _ _ (c .before .before .before .if1 .left))

@@ -5,33 +5,24 @@ use Rattle.protocol.specs.Form.{layout}
 use Rattle.protocol.specs.Decode.{decodeForm}
 use Rattle.codec.proofs.port.port_value.Statement.{statement}
 use Rattle.codec.proofs.port.port_value.Tie as tie
-use Rattle.codec.proofs.port.port_value.Reads as reads
-use Rattle.codec.proofs.port.port_value.Lts as lts
-use Rattle.codec.proofs.refusal.wrong_size.Reads as wrong-size-reads
 
--- src/port.rt:224:9
 wrong-size-requires : tie.Need-wrong-size-requires
 wrong-size-requires c κs = search needs
 
--- src/port.rt:224:9
 returns : tie.Need-returns
 unfolding decodeForm layout littleEndian
 returns c = simp (c .wrong-size .ensures, lt-leb _ _ (c .before .if1 .taken))
 
--- src/port.rt:227:9
 wrong-size-requires-2 : tie.Need-wrong-size-requires-2
 wrong-size-requires-2 c κs = search needs
 
--- src/port.rt:227:9
 returns-2 : tie.Need-returns-2
 unfolding decodeForm layout littleEndian
 returns-2 c = simp (c .wrong-size2 .ensures, lt-leb _ _ (c .before .if2 .taken), le-leb _ _ (c .before .before .if1 .left))
 
--- src/port.rt:229:50
 shared-slice-read-t5 : tie.Need-shared-slice-read-t5
 shared-slice-read-t5 c = search needs
 
--- src/port.rt:220:1
 returns-3 : tie.Need-returns-3
 unfolding decodeForm layout littleEndian
 returns-3 c = simp (le-leb _ _ (c .before .if2 .left), le-leb _ _ (c .before .before .if1 .left))

@@ -5,28 +5,20 @@ use Rattle.protocol.specs.Form.{layout}
 use Rattle.protocol.specs.Decode.{decodeForm}
 use Rattle.codec.proofs.port.virtual_connect.Statement.{statement}
 use Rattle.codec.proofs.port.virtual_connect.Tie as tie
-use Rattle.codec.proofs.port.virtual_connect.Reads as reads
-use Rattle.codec.proofs.port.virtual_connect.Lts as lts
-use Rattle.codec.proofs.refusal.wrong_size.Reads as wrong-size-reads
 
--- src/port.rt:283:9
 wrong-size-requires : tie.Need-wrong-size-requires
 wrong-size-requires c κs = search needs
 
--- src/port.rt:283:9
 returns : tie.Need-returns
 unfolding decodeForm layout littleEndian
 returns c = simp (c .wrong-size .ensures, ne-eqb _ _ (c .before .if1 .taken), c .before .before .before .pre)
 
--- src/port.rt:286:17
 shared-slice-read-t5 : tie.Need-shared-slice-read-t5
 shared-slice-read-t5 c = search needs
 
--- src/port.rt:287:17
 shared-slice-read-t7 : tie.Need-shared-slice-read-t7
 shared-slice-read-t7 c = search needs
 
--- src/port.rt:278:1
 returns-2 : tie.Need-returns-2
 unfolding decodeForm layout littleEndian
 returns-2 c = simp (eq-eqb _ _ (c .before .before .if1 .left), c .before .before .before .before .pre)

@@ -5,24 +5,17 @@ use Rattle.protocol.specs.Form.{layout}
 use Rattle.protocol.specs.Decode.{decodeForm}
 use Rattle.codec.proofs.port.virtual_disconnect.Statement.{statement}
 use Rattle.codec.proofs.port.virtual_disconnect.Tie as tie
-use Rattle.codec.proofs.port.virtual_disconnect.Reads as reads
-use Rattle.codec.proofs.port.virtual_disconnect.Lts as lts
-use Rattle.codec.proofs.refusal.wrong_size.Reads as wrong-size-reads
 
--- src/port.rt:273:9
 wrong-size-requires : tie.Need-wrong-size-requires
 wrong-size-requires c κs = search needs
 
--- src/port.rt:273:9
 returns : tie.Need-returns
 unfolding decodeForm layout littleEndian
 returns c = simp (c .wrong-size .ensures, ne-eqb _ _ (c .before .if1 .taken), c .before .before .before .pre)
 
--- src/port.rt:275:58
 shared-slice-read-t5 : tie.Need-shared-slice-read-t5
 shared-slice-read-t5 c = search needs
 
--- src/port.rt:268:1
 returns-2 : tie.Need-returns-2
 unfolding decodeForm layout littleEndian
 returns-2 c = simp (eq-eqb _ _ (c .before .if1 .left), c .before .before .before .pre)

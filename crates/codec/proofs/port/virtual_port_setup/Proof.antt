@@ -6,49 +6,34 @@ use borrow.Author.Tests.{le-ltb, ne-eqb}
 use borrow.Author.Needs.{needs}
 use Rattle.codec.proofs.port.virtual_port_setup.Statement.{statement}
 use Rattle.codec.proofs.port.virtual_port_setup.Tie as tie
-use Rattle.codec.proofs.port.virtual_port_setup.Reads as reads
-use Rattle.codec.proofs.port.virtual_port_setup.Lts as lts
-use Rattle.codec.proofs.port.virtual_connect.Reads as virtual-connect-reads
-use Rattle.codec.proofs.port.virtual_disconnect.Reads as virtual-disconnect-reads
-use Rattle.codec.proofs.refusal.outside.Reads as outside-reads
-use Rattle.codec.proofs.refusal.wrong_size.Reads as wrong-size-reads
 
--- src/port.rt:258:9
 wrong-size-requires : tie.Need-wrong-size-requires
 wrong-size-requires c κs = search needs
 
--- src/port.rt:258:9
 returns : tie.Need-returns
 unfolding virtualPortSetup
 returns c = c .wrong-size .ensures ∙ sym (too-short virtualPortSetup _ (c .before .if1 .taken))
 
--- src/port.rt:260:15
 shared-slice-read-sub : tie.Need-shared-slice-read-sub
 shared-slice-read-sub c = search needs
 
--- src/port.rt:262:14
 virtual-disconnect-requires : tie.Need-virtual-disconnect-requires
 virtual-disconnect-requires c κs = search needs
 
--- src/port.rt:263:14
 virtual-connect-requires : tie.Need-virtual-connect-requires
 virtual-connect-requires c κs = search needs
 
--- src/port.rt:264:14
 outside-requires : tie.Need-outside-requires
 outside-requires c κs = search needs
 
--- src/port.rt:254:1
 returns-2 : tie.Need-returns-2
 unfolding virtualPortSetup decodeType
 returns-2 c = simp (c .virtual-disconnect .ensures, le-ltb _ _ (c .before .before .before .if1 .left), c .before .match .keys1)
 
--- src/port.rt:254:1
 returns-3 : tie.Need-returns-3
 unfolding virtualPortSetup decodeType
 returns-3 c = simp (c .virtual-connect .ensures, le-ltb _ _ (c .before .before .before .if1 .left), c .before .match .keys2)
 
--- src/port.rt:254:1
 returns-4 : tie.Need-returns-4
 unfolding virtualPortSetup decodeType
 returns-4 c = simp (c .outside .ensures, le-ltb _ _ (c .before .before .before .if1 .left), ne-eqb _ _ (c .before .match .rest .0 .1), ne-eqb _ _ (c .before .match .rest .1))

@@ -2,26 +2,19 @@ use borrow.Author.Tests.{le-leb, lt-leb}
 use borrow.Author.Needs.{needs}
 use Rattle.codec.proofs.property.goes.Statement.{statement}
 use Rattle.codec.proofs.property.goes.Tie as tie
-use Rattle.codec.proofs.property.goes.Reads as reads
-use Rattle.codec.proofs.property.goes.Lts as lts
 
--- src/property.rt:54:16
 enum-told : tie.Need-enum-told
 enum-told c = search needs
 
--- src/property.rt:55:17
 returns : tie.Need-returns
 returns c = rw (c .before .enum-told .given .1, lt-leb _ _ (c .if1 .taken))
 
--- src/property.rt:59:20
 enum-told-2 : tie.Need-enum-told-2
 enum-told-2 c = search needs
 
--- src/property.rt:49:1
 returns-2 : tie.Need-returns-2
 returns-2 c = rw (c .before .enum-told .given .1, le-leb _ _ (c .if1 .left))
 
--- src/property.rt:49:1
 returns-3 : tie.Need-returns-3
 returns-3 c = rw (c .enum-told2 .given .1)
 

@@ -10,80 +10,56 @@ use Rattle.protocol.specs.Decode.{decodeType}
 use borrow.Author.Needs.{needs}
 use Rattle.codec.proofs.property.hub_properties.Statement.{statement}
 use Rattle.codec.proofs.property.hub_properties.Tie as tie
-use Rattle.codec.proofs.property.hub_properties.Reads as reads
-use Rattle.codec.proofs.property.hub_properties.Lts as lts
-use Rattle.codec.proofs.property.allowed.Reads as allowed-reads
-use Rattle.codec.proofs.property.carries.Reads as carries-reads
-use Rattle.codec.proofs.property.payload.Reads as payload-reads
-use Rattle.codec.proofs.property.property_command.Reads as property-command-reads
-use Rattle.codec.proofs.refusal.outside.Reads as outside-reads
-use Rattle.codec.proofs.refusal.wrong_size.Reads as wrong-size-reads
-use Rattle.codec.proofs.rule.between.Reads as between-reads
 
 in-between : (least most n : ℕ) → between least most n ≡ true → (least ≤ n) × (n ≤ most)
 in-between least most n e = (leb-true _ _ (and-left (leb least n) (leb n most) e), leb-true _ _ (and-right (leb least n) (leb n most) e))
 
--- src/property.rt:90:9
 wrong-size-requires : tie.Need-wrong-size-requires
 wrong-size-requires c κs = search needs
 
--- src/property.rt:90:9
 returns : tie.Need-returns
 unfolding decodeType hubProperties
 returns c = simp (c .wrong-size .ensures, lt-ltb _ _ (c .before .if1 .taken))
 
--- src/property.rt:92:20
 shared-slice-read-property : tie.Need-shared-slice-read-property
 shared-slice-read-property c = search needs
 
--- src/property.rt:93:9
 between-requires : tie.Need-between-requires
 between-requires c κs = search needs
 
--- src/property.rt:94:9
 outside-requires : tie.Need-outside-requires
 outside-requires c κs = search needs
 
--- src/property.rt:94:9
 returns-2 : tie.Need-returns-2
 unfolding decodeType hubProperties
 returns-2 c = simp (c .outside .ensures, sym (c .before .before .between .ensures) ∙ not-true _ (c .before .if2 .taken), le-ltb _ _ (c .before .before .before .before .if1 .left))
 
--- src/property.rt:96:21
 shared-slice-read-operation : tie.Need-shared-slice-read-operation
 shared-slice-read-operation c = search needs
 
--- src/property.rt:97:9
 allowed-requires : tie.Need-allowed-requires
 allowed-requires c κs = in-between 1 15 _ (sym (c .before .before .between .ensures) ∙ not-false _ (c .before .if2 .left))
 
--- src/property.rt:98:9
 outside-requires-2 : tie.Need-outside-requires-2
 outside-requires-2 c κs = search needs
 
--- src/property.rt:98:9
 returns-3 : tie.Need-returns-3
 unfolding decodeType hubProperties
 returns-3 c = simp (c .outside2 .ensures, sym (c .before .before .allowed .ensures) ∙ not-true _ (c .before .if3 .taken), sym (c .before .before .before .before .before .between .ensures) ∙ not-false _ (c .before .before .before .before .if2 .left), le-ltb _ _ (c .before .before .before .before .before .before .before .if1 .left))
 
--- src/property.rt:100:8
 carries-requires : tie.Need-carries-requires
 carries-requires c κs = search needs
 
--- src/property.rt:101:9
 payload-requires : tie.Need-payload-requires
 payload-requires c κs = search needs
 
--- src/property.rt:103:9
 property-command-requires : tie.Need-property-command-requires
 property-command-requires c κs = search needs
 
--- src/property.rt:86:1
 returns-4 : tie.Need-returns-4
 unfolding decodeType hubProperties
 returns-4 c = simp (c .payload .ensures, sym (c .before .before .carries .ensures) ∙ c .before .if4 .taken, sym (c .before .before .before .before .allowed .ensures) ∙ not-false _ (c .before .before .before .if3 .left), sym (c .before .before .before .before .before .before .before .between .ensures) ∙ not-false _ (c .before .before .before .before .before .before .if2 .left), le-ltb _ _ (c .before .before .before .before .before .before .before .before .before .if1 .left))
 
--- src/property.rt:86:1
 returns-5 : tie.Need-returns-5
 unfolding decodeType hubProperties
 returns-5 c = simp (c .property-command .ensures, sym (c .before .before .carries .ensures) ∙ c .before .if4 .left, sym (c .before .before .before .before .allowed .ensures) ∙ not-false _ (c .before .before .before .if3 .left), sym (c .before .before .before .before .before .before .before .between .ensures) ∙ not-false _ (c .before .before .before .before .before .before .if2 .left), le-ltb _ _ (c .before .before .before .before .before .before .before .before .before .if1 .left))

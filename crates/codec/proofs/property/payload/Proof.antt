@@ -4,108 +4,79 @@ use Rattle.protocol.specs.Properties.{longest}
 use borrow.Author.Needs.{needs}
 use Rattle.codec.proofs.property.payload.Statement.{statement}
 use Rattle.codec.proofs.property.payload.Tie as tie
-use Rattle.codec.proofs.property.payload.Reads as reads
-use Rattle.codec.proofs.property.payload.Lts as lts
-use Rattle.codec.proofs.property.property_address.Reads as property-address-reads
-use Rattle.codec.proofs.property.property_byte.Reads as property-byte-reads
-use Rattle.codec.proofs.property.property_protocol.Reads as property-protocol-reads
-use Rattle.codec.proofs.property.property_rssi.Reads as property-rssi-reads
-use Rattle.codec.proofs.property.property_text.Reads as property-text-reads
-use Rattle.codec.proofs.property.property_version.Reads as property-version-reads
 
--- src/property.rt:125:20
 shared-slice-read-property : tie.Need-shared-slice-read-property
 shared-slice-read-property c = search needs
 
--- src/property.rt:127:14
 property-text-requires : tie.Need-property-text-requires
 unfolding longest
 property-text-requires c κs = rw (c .match .keys1)
 
--- src/property.rt:128:14
 property-text-requires-2 : tie.Need-property-text-requires-2
 unfolding longest
 property-text-requires-2 c κs = rw (c .match .keys2)
 
--- src/property.rt:129:14
 property-text-requires-3 : tie.Need-property-text-requires-3
 unfolding longest
 property-text-requires-3 c κs = rw (c .match .keys3)
 
--- src/property.rt:130:14
 property-version-requires : tie.Need-property-version-requires
 property-version-requires c κs = search needs
 
--- src/property.rt:131:14
 property-version-requires-2 : tie.Need-property-version-requires-2
 property-version-requires-2 c κs = search needs
 
--- src/property.rt:132:14
 property-rssi-requires : tie.Need-property-rssi-requires
 property-rssi-requires c κs = search needs
 
--- src/property.rt:133:15
 property-protocol-requires : tie.Need-property-protocol-requires
 property-protocol-requires c κs = search needs
 
--- src/property.rt:134:15
 property-address-requires : tie.Need-property-address-requires
 property-address-requires c κs = search needs
 
--- src/property.rt:135:15
 property-address-requires-2 : tie.Need-property-address-requires-2
 property-address-requires-2 c κs = search needs
 
--- src/property.rt:136:14
 property-byte-requires : tie.Need-property-byte-requires
 property-byte-requires c κs = search needs
 
--- src/property.rt:121:1
 returns : tie.Need-returns
 unfolding payload
 returns c = simp (c .property-text .ensures, c .before .match .keys1)
 
--- src/property.rt:121:1
 returns-2 : tie.Need-returns-2
 unfolding payload
 returns-2 c = simp (c .property-text2 .ensures, c .before .match .keys2)
 
--- src/property.rt:121:1
 returns-3 : tie.Need-returns-3
 unfolding payload
 returns-3 c = simp (c .property-text3 .ensures, c .before .match .keys3)
 
--- src/property.rt:121:1
 returns-4 : tie.Need-returns-4
 unfolding payload
 returns-4 c = simp (c .property-version .ensures, c .before .match .keys4)
 
--- src/property.rt:121:1
 returns-5 : tie.Need-returns-5
 unfolding payload
 returns-5 c = simp (c .property-version2 .ensures, c .before .match .keys5)
 
--- src/property.rt:121:1
 returns-6 : tie.Need-returns-6
 unfolding payload
 returns-6 c = simp (c .property-rssi .ensures, c .before .match .keys6)
 
--- src/property.rt:121:1
 returns-7 : tie.Need-returns-7
 unfolding payload
 returns-7 c = simp (c .property-protocol .ensures, c .before .match .keys7)
 
--- src/property.rt:121:1
 returns-8 : tie.Need-returns-8
 unfolding payload
 returns-8 c = simp (c .property-address .ensures, c .before .match .keys8)
 
--- src/property.rt:121:1
 returns-9 : tie.Need-returns-9
 unfolding payload
 returns-9 c = simp (c .property-address2 .ensures, c .before .match .keys9)
 
--- src/property.rt:121:1
 returns-10 : tie.Need-returns-10
 unfolding payload
 returns-10 c = simp (c .property-byte .ensures, ne-eqb _ _ (c .before .match .rest .0 .0 .0 .0 .0 .0 .0 .0 .1), ne-eqb _ _ (c .before .match .rest .0 .0 .0 .0 .0 .0 .0 .1), ne-eqb _ _ (c .before .match .rest .0 .0 .0 .0 .0 .0 .1), ne-eqb _ _ (c .before .match .rest .0 .0 .0 .0 .0 .1), ne-eqb _ _ (c .before .match .rest .0 .0 .0 .0 .1), ne-eqb _ _ (c .before .match .rest .0 .0 .0 .1), ne-eqb _ _ (c .before .match .rest .0 .0 .1), ne-eqb _ _ (c .before .match .rest .0 .1), ne-eqb _ _ (c .before .match .rest .1))

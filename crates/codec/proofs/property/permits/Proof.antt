@@ -1,4 +1,4 @@
-use Prim.Native.Nat.{ℕ, suc, _-_, _≤_, _<_}
+use Prim.Native.Nat.{ℕ, suc, _-_, _≤_}
 use native.Mathlib.Omega.{arith}
 use mathlib.Core.Path.{_≡_, refl}
 use mathlib.Core.Bool.{Bool, true, false, _&&_}
@@ -12,8 +12,6 @@ use Rattle.protocol.proofs.Table.{every, entry, same, same-eq}
 use borrow.Author.Needs.{needs}
 use Rattle.codec.proofs.property.permits.Statement.{statement}
 use Rattle.codec.proofs.property.permits.Tie as tie
-use Rattle.codec.proofs.property.permits.Reads as reads
-use Rattle.codec.proofs.property.permits.Lts as lts
 
 -- the constant
 abbrev permitted : List (List Bool)
@@ -53,27 +51,21 @@ rule table passes fifteen p o p1 p15 o1 o6 =
     let eo : suc (o - 1) ≡ o = omega arith in
     rw (ep, eo) at found
 
--- src/property.rt:45:15
 sub-result : tie.Need-sub-result
 sub-result c = search needs
 
--- src/property.rt:45:29
 sub-result-2 : tie.Need-sub-result-2
 sub-result-2 c = search needs
 
--- src/property.rt:45:5
 mul-result : tie.Need-mul-result
 mul-result c = search needs
 
--- src/property.rt:45:5
 index-1-result : tie.Need-index-1-result
 index-1-result c = search needs
 
--- src/property.rt:45:5
 index-2-result : tie.Need-index-2-result
 index-2-result c = search needs
 
--- src/property.rt:41:1
 returns : tie.Need-returns
 unfolding permits
 returns c = rule permitted refl refl (c .before .args .property) (c .before .args .operation) (search needs) (search needs) (search needs) (search needs)

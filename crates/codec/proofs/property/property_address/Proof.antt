@@ -5,33 +5,23 @@ use Rattle.protocol.specs.Form.{layout}
 use Rattle.protocol.specs.Decode.{decodeForm}
 use Rattle.codec.proofs.property.property_address.Statement.{statement}
 use Rattle.codec.proofs.property.property_address.Tie as tie
-use Rattle.codec.proofs.property.property_address.Reads as reads
-use Rattle.codec.proofs.property.property_address.Lts as lts
-use Rattle.codec.proofs.number.u48_at.Reads as u48-at-reads
-use Rattle.codec.proofs.refusal.wrong_size.Reads as wrong-size-reads
 
--- src/property.rt:229:9
 wrong-size-requires : tie.Need-wrong-size-requires
 wrong-size-requires c κs = search needs
 
--- src/property.rt:229:9
 returns : tie.Need-returns
 unfolding decodeForm layout littleEndian bigEndian
 returns c = simp (c .wrong-size .ensures, ne-eqb _ _ (c .before .if1 .taken))
 
--- src/property.rt:232:19
 shared-slice-read-t5 : tie.Need-shared-slice-read-t5
 shared-slice-read-t5 c = search needs
 
--- src/property.rt:233:20
 shared-slice-read-t7 : tie.Need-shared-slice-read-t7
 shared-slice-read-t7 c = search needs
 
--- src/property.rt:234:18
 u48-at-requires : tie.Need-u48-at-requires
 u48-at-requires c κs = search needs
 
--- src/property.rt:225:1
 returns-2 : tie.Need-returns-2
 unfolding decodeForm layout littleEndian bigEndian
 returns-2 c = simp (c .u48-at .ensures, eq-eqb _ _ (c .before .before .before .if1 .left))

@@ -5,29 +5,20 @@ use Rattle.protocol.specs.Form.{layout}
 use Rattle.protocol.specs.Decode.{decodeForm}
 use Rattle.codec.proofs.property.property_protocol.Statement.{statement}
 use Rattle.codec.proofs.property.property_protocol.Tie as tie
-use Rattle.codec.proofs.property.property_protocol.Reads as reads
-use Rattle.codec.proofs.property.property_protocol.Lts as lts
-use Rattle.codec.proofs.number.u16_at.Reads as u16-at-reads
-use Rattle.codec.proofs.refusal.wrong_size.Reads as wrong-size-reads
 
--- src/property.rt:217:9
 wrong-size-requires : tie.Need-wrong-size-requires
 wrong-size-requires c κs = search needs
 
--- src/property.rt:217:9
 returns : tie.Need-returns
 unfolding decodeForm layout littleEndian
 returns c = simp (c .wrong-size .ensures, ne-eqb _ _ (c .before .if1 .taken), c .before .before .before .pre)
 
--- src/property.rt:220:20
 shared-slice-read-t5 : tie.Need-shared-slice-read-t5
 shared-slice-read-t5 c = search needs
 
--- src/property.rt:221:18
 u16-at-requires : tie.Need-u16-at-requires
 u16-at-requires c κs = search needs
 
--- src/property.rt:212:1
 returns-2 : tie.Need-returns-2
 unfolding decodeForm layout littleEndian
 returns-2 c = simp (c .u16-at .ensures, eq-eqb _ _ (c .before .before .if1 .left), c .before .before .before .before .pre)

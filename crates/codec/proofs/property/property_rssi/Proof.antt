@@ -7,33 +7,23 @@ use Rattle.protocol.specs.Form.{layout}
 use Rattle.protocol.specs.Decode.{decodeForm}
 use Rattle.codec.proofs.property.property_rssi.Statement.{statement}
 use Rattle.codec.proofs.property.property_rssi.Tie as tie
-use Rattle.codec.proofs.property.property_rssi.Reads as reads
-use Rattle.codec.proofs.property.property_rssi.Lts as lts
-use Rattle.codec.proofs.number.i8_of.Reads as i8-of-reads
-use Rattle.codec.proofs.refusal.wrong_size.Reads as wrong-size-reads
 
--- src/property.rt:191:9
 wrong-size-requires : tie.Need-wrong-size-requires
 wrong-size-requires c κs = search needs
 
--- src/property.rt:191:9
 returns : tie.Need-returns
 unfolding decodeForm layout littleEndian
 returns c = simp (c .wrong-size .ensures, ne-eqb _ _ (c .before .if1 .taken), c .before .before .before .pre)
 
--- src/property.rt:194:20
 shared-slice-read-t5 : tie.Need-shared-slice-read-t5
 shared-slice-read-t5 c = search needs
 
--- src/property.rt:195:21
 shared-slice-read-i8-of : tie.Need-shared-slice-read-i8-of
 shared-slice-read-i8-of c = search needs
 
--- src/property.rt:195:15
 i8-of-requires : tie.Need-i8-of-requires
 i8-of-requires c κs = search needs
 
--- src/property.rt:186:1
 returns-2 : tie.Need-returns-2
 unfolding decodeForm layout littleEndian
 returns-2 c = rw (toZ-ofZ {w = w8} {z = c .i8-of .result} (record { sfits = c .i8-of .ok })) (simp (c .i8-of .ensures, eq-eqb _ _ (c .before .before .before .if1 .left), c .before .before .before .before .before .pre))

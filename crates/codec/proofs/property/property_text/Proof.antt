@@ -5,37 +5,27 @@ use Rattle.protocol.specs.Form.{layout}
 use Rattle.protocol.specs.Decode.{decodeForm}
 use Rattle.codec.proofs.property.property_text.Statement.{statement}
 use Rattle.codec.proofs.property.property_text.Tie as tie
-use Rattle.codec.proofs.property.property_text.Reads as reads
-use Rattle.codec.proofs.property.property_text.Lts as lts
-use Rattle.codec.proofs.refusal.wrong_size.Reads as wrong-size-reads
 
--- src/property.rt:146:9
 wrong-size-requires : tie.Need-wrong-size-requires
 wrong-size-requires c κs = search needs
 
--- src/property.rt:146:9
 returns : tie.Need-returns
 unfolding decodeForm layout littleEndian
 returns c = simp (c .wrong-size .ensures, lt-leb _ _ (c .before .if1 .taken))
 
--- src/property.rt:149:9
 wrong-size-requires-2 : tie.Need-wrong-size-requires-2
 wrong-size-requires-2 c κs = search needs
 
--- src/property.rt:149:9
 returns-2 : tie.Need-returns-2
 unfolding decodeForm layout littleEndian
 returns-2 c = simp (c .wrong-size2 .ensures, lt-leb _ _ (c .before .if2 .taken), le-leb _ _ (c .before .before .if1 .left), ← c .before .before .before .before .pre)
 
--- src/property.rt:152:19
 shared-slice-read-t6 : tie.Need-shared-slice-read-t6
 shared-slice-read-t6 c = search needs
 
--- src/property.rt:153:20
 shared-slice-read-t8 : tie.Need-shared-slice-read-t8
 shared-slice-read-t8 c = search needs
 
--- src/property.rt:141:1
 returns-3 : tie.Need-returns-3
 unfolding decodeForm layout littleEndian
 returns-3 c = simp (le-leb _ _ (c .before .before .if2 .left), le-leb _ _ (c .before .before .before .if1 .left), ← c .before .before .before .before .before .pre)

@@ -7,38 +7,26 @@ use Rattle.protocol.specs.Form.{layout}
 use Rattle.protocol.specs.Decode.{decodeForm}
 use Rattle.codec.proofs.property.property_version.Statement.{statement}
 use Rattle.codec.proofs.property.property_version.Tie as tie
-use Rattle.codec.proofs.property.property_version.Reads as reads
-use Rattle.codec.proofs.property.property_version.Lts as lts
-use Rattle.codec.proofs.number.i32_of.Reads as i32-of-reads
-use Rattle.codec.proofs.number.u32_at.Reads as u32-at-reads
-use Rattle.codec.proofs.refusal.wrong_size.Reads as wrong-size-reads
 
--- src/property.rt:203:9
 wrong-size-requires : tie.Need-wrong-size-requires
 wrong-size-requires c κs = search needs
 
--- src/property.rt:203:9
 returns : tie.Need-returns
 unfolding decodeForm layout littleEndian
 returns c = simp (c .wrong-size .ensures, ne-eqb _ _ (c .before .if1 .taken))
 
--- src/property.rt:206:19
 shared-slice-read-t5 : tie.Need-shared-slice-read-t5
 shared-slice-read-t5 c = search needs
 
--- src/property.rt:207:20
 shared-slice-read-t7 : tie.Need-shared-slice-read-t7
 shared-slice-read-t7 c = search needs
 
--- src/property.rt:208:25
 u32-at-requires : tie.Need-u32-at-requires
 u32-at-requires c κs = search needs
 
--- src/property.rt:208:18
 i32-of-requires : tie.Need-i32-of-requires
 i32-of-requires c κs = search needs
 
--- src/property.rt:199:1
 returns-2 : tie.Need-returns-2
 unfolding decodeForm layout littleEndian
 returns-2 c = rw (toZ-ofZ {w = w32} {z = c .i32-of .result} (record { sfits = c .i32-of .ok })) (simp (c .i32-of .ensures, c .before .u32-at .ensures, eq-eqb _ _ (c .before .before .before .before .if1 .left)))
