@@ -1,23 +1,10 @@
 // Reading messages of LEGO Wireless Protocol 3.0, each function proved equal to its definition in
 // the crate `protocol`.
-mod firmware;
-mod hub;
 mod mode;
 mod number;
 mod port;
 mod property;
-mod refusal;
-mod rule;
 
-use crate::firmware::go_into_boot_mode;
-use crate::firmware::lock_memory;
-use crate::firmware::lock_status;
-use crate::firmware::lock_status_request;
-use crate::hub::generic_error;
-use crate::hub::hub_actions_down;
-use crate::hub::hub_actions_up;
-use crate::hub::hub_alerts_down;
-use crate::hub::hub_alerts_up;
 use crate::mode::port_mode_information;
 use crate::port::hub_attached_io;
 use crate::port::input_format;
@@ -28,7 +15,16 @@ use crate::port::port_information_request;
 use crate::port::port_value;
 use crate::port::virtual_port_setup;
 use crate::property::hub_properties;
-use crate::refusal::refuse;
+use hub_messages::firmware::go_into_boot_mode;
+use hub_messages::firmware::lock_memory;
+use hub_messages::firmware::lock_status;
+use hub_messages::firmware::lock_status_request;
+use hub_messages::hub::generic_error;
+use hub_messages::hub::hub_actions_down;
+use hub_messages::hub::hub_actions_up;
+use hub_messages::hub::hub_alerts_down;
+use hub_messages::hub::hub_alerts_up;
+use hub_messages::refusal::refuse;
 use protocol::Message;
 use protocol::Reading;
 use protocol::Way;

@@ -2,8 +2,8 @@
 use crate::number::i32_of;
 use crate::number::u16_at;
 use crate::number::u32_at;
-use crate::refusal::outside;
-use crate::refusal::wrong_size;
+use hub_messages::refusal::outside;
+use hub_messages::refusal::wrong_size;
 use protocol::Combinations;
 use protocol::Message;
 use protocol::Reading;
