@@ -1,5 +1,5 @@
 -- An i32 as a cell.
-use Prim.Native.Nat.{ℕ, suc, _+_, _-_, _<_}
+use Prim.Native.Nat.{ℕ, suc, _+_, _-_, _^_, _≤_, _<_}
 use mathlib.Core.Path.{_≡_, refl}
 use mathlib.Core.Bool.{true, false}
 use native.Mathlib.Omega.{arith}
@@ -7,20 +7,16 @@ use borrow.Author.Tests.{le-ltb}
 use lib.Dec.{T, leb·zero}
 use lib.IntN.{ℤ, pos, negsuc, natAbs, _+ℤ_}
 use lib.Signed.{leZ, nonNeg}
-use mir.Syntax.{w8, w32, w64}
-use mir.Val.{Fits, SFits, toZ, ofZ}
+use mir.Syntax.{Width, w32, w64}
+use mir.Val.{hbits, Fits, SFits, toZ, ofZ}
 use mir.Facts.{toZ-ofZ, toZ-pos}
 use Rattle.protocol.specs.Field.{integer}
 use Rattle.capi.specs.Cells.{cell}
 
--- what fits 32 bits fits 64
-pub wider : (z : ℤ) → SFits w32 z → SFits w64 z
-wider (pos n) f = record { sfits = omega (arith, f .sfits) }
-wider (negsuc n) f = record { sfits = omega (arith, f .sfits) }
-
-pub wider8 : (z : ℤ) → SFits w8 z → SFits w32 z
-wider8 (pos n) f = record { sfits = omega (arith, f .sfits) }
-wider8 (negsuc n) f = record { sfits = omega (arith, f .sfits) }
+-- what fits a width fits a wider one
+pub wider : (v w : Width) → 2 ^ hbits v ≤ 2 ^ hbits w → (z : ℤ) → SFits v z → SFits w z
+wider v w h (pos n) f = record { sfits = omega (arith, f .sfits) }
+wider v w h (negsuc n) f = record { sfits = omega (arith, f .sfits) }
 
 -- not below 0: the number itself
 pub upper : (z : ℤ) → SFits w32 z → leZ (pos 0) z ≡ true → T (nonNeg z) × Fits w64 (natAbs z)
@@ -48,7 +44,7 @@ raised (negsuc n) f e = record {
 }
 
 sum-is : (z : ℤ) → SFits w32 z → (r : Raised z) → toZ w64 (ofZ w64 (toZ w32 (ofZ w32 z))) +ℤ pos 2147483648 ≡ pos (r .by)
-sum-is z f r = rw (toZ-ofZ f, toZ-ofZ (wider z f)) (r .sum)
+sum-is z f r = rw (toZ-ofZ f, toZ-ofZ (wider w32 w64 (omega arith) z f)) (r .sum)
 
 pub sum-fits : (z : ℤ) → SFits w32 z → (r : Raised z) → SFits w64 (toZ w64 (ofZ w64 (toZ w32 (ofZ w32 z))) +ℤ pos 2147483648)
 sum-fits z f r = rw (sum-is z f r) (record { sfits = omega (arith, r .small) })

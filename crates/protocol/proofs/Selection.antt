@@ -21,11 +21,6 @@ pub long-enough : (t : MessageType) (s : List ℕ) → header + t .selectors ≤
 unfolding decodeType
 long-enough t s h = rw (le-ltb (length s) (header + t .selectors) h)
 
--- the selector at an offset is v
-pub selected : (offset : ℕ) (rule : Rule) (next : ℕ → Selection) (s : List ℕ) (v : ℕ) → getD s (header + offset) 0 ≡ v
-    → decodeSelection (select offset rule next) s ≡ cond (rule v) (decodeSelection (next v) s) (refused 7 (header + offset))
-selected offset rule next s v e = rw e
-
 -- the type byte is v
 pub typed : (way : Way) (s : List ℕ) (v : ℕ) → getD s 2 0 ≡ v → decodeWay way s ≡ decodeTyped (typeOf v (types way)) s
 unfolding decodeWay

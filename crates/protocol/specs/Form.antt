@@ -246,7 +246,7 @@ layout inputFormat = only inputSetup
 layout virtualDisconnect = only (selector ∷ port ∷ [])
 layout virtualConnect = only (selector ∷ port ∷ port ∷ [])
 
--- whether a whole size fits, where the fields end at `fixed`
+-- whether a whole size fits, where the fields end at a place
 abbrev pub fits : Rest → ℕ → ℕ → Bool
 fits nothing end size = eqb size end
 fits (openRun least most) end size = leb (end + least) size && leb size (end + most)

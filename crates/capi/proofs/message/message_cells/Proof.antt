@@ -1,7 +1,8 @@
+use native.Mathlib.Omega.{arith}
 use mir.Syntax.{w8, w32}
 use mir.Val.{SFits}
 use mir.Facts.{toZ-ofZ}
-use Rattle.capi.proofs.Signed.{wider8}
+use Rattle.capi.proofs.Signed.{wider}
 use borrow.Author.Needs.{needs}
 use Rattle.capi.proofs.message.message_cells.Statement.{statement}
 use Rattle.capi.proofs.message.message_cells.Tie as tie
@@ -54,7 +55,7 @@ cast-t94 c = search needs
 cast-signed : tie.Need-cast-signed
 cast-signed c =
     let fits : SFits w8 (c .before .m4 .given .0 .1 .0) = record { sfits = c .known-told4 .given .1 .0 .1 } in
-    rw (toZ-ofZ fits) (wider8 (c .before .m4 .given .0 .1 .0) fits)
+    rw (toZ-ofZ fits) (wider w8 w32 (omega arith) (c .before .m4 .given .0 .1 .0) fits)
 
 signed-requires : tie.Need-signed-requires
 signed-requires c κs = search needs
@@ -479,7 +480,7 @@ returns-3 c = rw (c .before .before .m3 .given .1, c .row3 .ensures)
 returns-4 : tie.Need-returns-4
 returns-4 c =
     let fits : SFits w8 (c .before .before .before .m4 .given .0 .1 .0) = record { sfits = c .before .before .known-told4 .given .1 .0 .1 } in
-    rw (c .before .before .before .m4 .given .1, c .row4 .ensures, c .before .signed .ensures, toZ-ofZ fits, toZ-ofZ (wider8 (c .before .before .before .m4 .given .0 .1 .0) fits))
+    rw (c .before .before .before .m4 .given .1, c .row4 .ensures, c .before .signed .ensures, toZ-ofZ fits, toZ-ofZ (wider w8 w32 (omega arith) (c .before .before .before .m4 .given .0 .1 .0) fits))
 
 returns-5 : tie.Need-returns-5
 returns-5 c =

@@ -1,4 +1,5 @@
 use native.Mathlib.Omega.{arith}
+use mir.Syntax.{w32, w64}
 use mir.Facts.{toZ-ofZ}
 use Rattle.capi.proofs.Signed.{wider, upper, upper-cell, raised, sum-fits, sum-back}
 use Rattle.capi.proofs.message.signed.Statement.{statement}
@@ -8,7 +9,7 @@ cast-result : tie.Need-cast-result
 cast-result c = rw (toZ-ofZ (c .before .fits .v)) (upper (c .before .args .v) (c .before .fits .v) (rw (toZ-ofZ (c .before .fits .v)) at (c .if1 .taken)))
 
 cast-result-2 : tie.Need-cast-result-2
-cast-result-2 c = rw (toZ-ofZ (c .before .fits .v)) (wider (c .before .args .v) (c .before .fits .v))
+cast-result-2 c = rw (toZ-ofZ (c .before .fits .v)) (wider w32 w64 (omega arith) (c .before .args .v) (c .before .fits .v))
 
 add-result : tie.Need-add-result
 add-result c = sum-fits (c .before .args .v) (c .before .fits .v) (raised (c .before .args .v) (c .before .fits .v) (rw (toZ-ofZ (c .before .fits .v)) at (c .if1 .left)))
