@@ -4,9 +4,11 @@ use crate::number::i32_of;
 use crate::number::u16_at;
 use crate::number::u32_at;
 use crate::number::u48_at;
+use hub_messages::property::carries;
+use hub_messages::property::greatest;
+use hub_messages::property::outside_selector;
 use hub_messages::refusal::outside;
 use hub_messages::refusal::wrong_size;
-use hub_messages::rule::between;
 use protocol::Message;
 use protocol::Reading;
 use protocol::Way;
@@ -19,69 +21,6 @@ ghost use Rattle.protocol.specs.Types as Types;
 ghost use Rattle.protocol.specs.Decode.{decodeForm, decodeType};
 ghost use Rattle.protocol.specs.Answer.{answerOf};
 
-// Which operation (columns 1 to 6: Set, Enable, Disable, Reset, Request, Update) each hub property
-// (rows 1 to 15) permits.
-const PERMITTED: [[bool; 6]; 15] = [
-    [true, true, true, true, true, true],
-    [false, true, true, false, true, true],
-    [false, false, false, false, true, true],
-    [false, false, false, false, true, true],
-    [false, true, true, false, true, true],
-    [false, true, true, false, true, true],
-    [false, false, false, false, true, true],
-    [false, false, false, false, true, true],
-    [false, false, false, false, true, true],
-    [false, false, false, false, true, true],
-    [false, false, false, false, true, true],
-    [true, false, false, true, true, true],
-    [false, false, false, false, true, true],
-    [false, false, false, false, true, true],
-    [true, false, false, false, true, true],
-];
-
-fn permits(property: usize, operation: usize) -> bool
-    requires { ⌜ ((1 ≤ property) × (property ≤ 15)) × ((1 ≤ operation) × (operation ≤ 6)) ⌝ }
-    ensures { λ r. ⌜ r ≡ Properties.permits property operation ⌝ }
-{
-    PERMITTED[property - 1][operation - 1]
-}
-
-// Which way an operation goes: 1 to 5 down, 6 up.
-fn goes(way: Way, operation: u8) -> bool
-    ensures { λ r. ⌜ r ≡ Properties.goes way operation ⌝ }
-{
-    match way {
-        Way::Down => {
-            if operation < 1 {
-                return false;
-            }
-            operation <= 5
-        }
-        Way::Up => operation == 6,
-    }
-}
-
-fn allowed(way: Way, property: u8, operation: u8) -> bool
-    requires { ⌜ (1 ≤ property) × (property ≤ 15) ⌝ }
-    ensures { λ r. ⌜ r ≡ Properties.allowed way property operation ⌝ }
-{
-    if goes(way, operation) {
-        permits(property as usize, operation as usize)
-    } else {
-        false
-    }
-}
-
-// Set and Update carry the payload.
-fn carries(operation: u8) -> bool
-    ensures { λ r. ⌜ r ≡ Properties.carries operation ⌝ }
-{
-    if operation == 1 {
-        return true;
-    }
-    operation == 6
-}
-
 // 0x01: property, operation.
 pub(crate) fn hub_properties(s: &[u8], way: Way) -> Reading
     ensures { λ r. ⌜ answerOf r ≡ decodeType (Types.hubProperties way) (now (s .entry)) ⌝ }
@@ -89,13 +28,10 @@ pub(crate) fn hub_properties(s: &[u8], way: Way) -> Reading
     if s.len() < 5 {
         return wrong_size();
     }
-    let property = s[3];
-    if !between(1, property, 15) {
-        return outside(3);
-    }
     let operation = s[4];
-    if !allowed(way, property, operation) {
-        return outside(4);
+    let place = outside_selector(way, s[3], operation);
+    if place != 0 {
+        return outside(place);
     }
     if carries(operation) {
         payload(s)
@@ -151,19 +87,6 @@ fn property_text(s: &[u8], most: usize) -> Reading
         property: s[3],
         operation: s[4],
     })
-}
-
-// The greatest value of a one-byte payload.
-fn greatest(property: u8) -> u8
-    ensures { λ r. ⌜ r ≡ Properties.greatest property ⌝ }
-{
-    match property {
-        2 => 1,
-        7 => 1,
-        6 => 100,
-        15 => 8,
-        _ => 255,
-    }
 }
 
 fn property_byte(s: &[u8]) -> Reading

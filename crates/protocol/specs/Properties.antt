@@ -26,6 +26,10 @@ permits property operation = oneOf (operations property) operation
 unfoldable pub allowed : Way → ℕ → Rule
 allowed way property operation = goes way operation && permits property operation
 
+-- the place of the first selector of a 01 that is outside its list, 0 where neither is
+unfoldable pub outsideSelector : Way → ℕ → ℕ → ℕ
+outsideSelector way property operation = cond (between 1 15 property) (cond (allowed way property operation) 0 4) 3
+
 -- Set and Update carry the payload
 unfoldable pub carries : Rule
 carries operation = oneOf (1 ∷ 6 ∷ []) operation

@@ -1,7 +1,7 @@
 use borrow.Author.Tests.{le-leb, lt-leb}
 use borrow.Author.Needs.{needs}
-use Rattle.codec.proofs.property.goes.Statement.{statement}
-use Rattle.codec.proofs.property.goes.Tie as tie
+use Rattle.hub_messages.proofs.property.goes.Statement.{statement}
+use Rattle.hub_messages.proofs.property.goes.Tie as tie
 
 enum-told : tie.Need-enum-told
 enum-told c = search needs

@@ -10,8 +10,8 @@ use Rattle.protocol.specs.Properties.{permits}
 use Rattle.protocol.proofs.Tests.{and-left, and-right}
 use Rattle.protocol.proofs.Table.{every, entry, same, same-eq}
 use borrow.Author.Needs.{needs}
-use Rattle.codec.proofs.property.permits.Statement.{statement}
-use Rattle.codec.proofs.property.permits.Tie as tie
+use Rattle.hub_messages.proofs.property.permits.Statement.{statement}
+use Rattle.hub_messages.proofs.property.permits.Tie as tie
 
 -- the constant
 abbrev permitted : List (List Bool)

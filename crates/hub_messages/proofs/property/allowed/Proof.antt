@@ -9,8 +9,8 @@ use Rattle.protocol.proofs.Tests.{and-left, and-right}
 use Rattle.protocol.specs.Properties.{allowed, goes}
 use mathlib.Core.Path.{_≡_, sym, _∙_}
 use borrow.Author.Needs.{needs}
-use Rattle.codec.proofs.property.allowed.Statement.{statement}
-use Rattle.codec.proofs.property.allowed.Tie as tie
+use Rattle.hub_messages.proofs.property.allowed.Statement.{statement}
+use Rattle.hub_messages.proofs.property.allowed.Tie as tie
 
 -- an operation that goes either way is 1 to 6
 bounds : (way : Way) (n : ℕ) → goes way n ≡ true → (1 ≤ n) × (n ≤ 6)

@@ -1,7 +1,7 @@
 use Rattle.protocol.specs.Properties.{greatest}
 use borrow.Author.Tests.{ne-eqb}
-use Rattle.codec.proofs.property.greatest.Statement.{statement}
-use Rattle.codec.proofs.property.greatest.Tie as tie
+use Rattle.hub_messages.proofs.property.greatest.Statement.{statement}
+use Rattle.hub_messages.proofs.property.greatest.Tie as tie
 
 returns : tie.Need-returns
 unfolding greatest

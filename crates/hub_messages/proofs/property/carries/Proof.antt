@@ -1,8 +1,8 @@
 use Rattle.protocol.specs.Properties.{carries}
 use mathlib.Core.Bool.{or-false}
-use Rattle.codec.proofs.property.carries.Statement.{statement}
+use Rattle.hub_messages.proofs.property.carries.Statement.{statement}
 use borrow.Author.Tests.{eq-eqb, ne-eqb}
-use Rattle.codec.proofs.property.carries.Tie as tie
+use Rattle.hub_messages.proofs.property.carries.Tie as tie
 
 returns : tie.Need-returns
 unfolding carries
