@@ -4,6 +4,7 @@ use crate::number::u16_at;
 use crate::number::u32_at;
 use hub_messages::refusal::outside;
 use hub_messages::refusal::wrong_size;
+use hub_messages::rule::is_information_type;
 use protocol::Combinations;
 use protocol::Message;
 use protocol::Reading;
@@ -86,21 +87,6 @@ pub(crate) fn port_information_request(s: &[u8]) -> Reading
         port: s[3],
         information,
     })
-}
-
-fn is_information_type(information: u8) -> bool
-    ensures { λ r. ⌜ r ≡ Form.informationType information ⌝ }
-{
-    if information <= 5 {
-        return true;
-    }
-    if information == 7 {
-        return true;
-    }
-    if information == 8 {
-        return true;
-    }
-    information == 0x80
 }
 
 // 0x22

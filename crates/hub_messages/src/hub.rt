@@ -2,6 +2,7 @@
 use crate::refusal::outside;
 use crate::refusal::wrong_size;
 use crate::rule::between;
+use crate::rule::is_alert_status;
 use protocol::Message;
 use protocol::Reading;
 ghost use mathlib.Core.Path.{_≡_};
@@ -101,15 +102,6 @@ fn alert_command(s: &[u8]) -> Reading
         alert: s[3],
         operation: s[4],
     })
-}
-
-fn is_alert_status(status: u8) -> bool
-    ensures { λ r. ⌜ r ≡ Form.alertStatus status ⌝ }
-{
-    if status == 0x00 {
-        return true;
-    }
-    status == 0xFF
 }
 
 fn alert_update(s: &[u8]) -> Reading

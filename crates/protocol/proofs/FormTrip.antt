@@ -65,7 +65,7 @@ proper Form.virtualConnect = omega arith
 -- the size was right, so what follows the fields is
 record RestWritten (r : Rest) (s : List ℕ) (end : ℕ) (rs : List Value) : Type 0 where
   room : end ≤ length s
-  right : restFits r rs (openBytes s end r) ≡ true
+  right : restFits r rs (length (openBytes s end r)) ≡ true
   left : List Value
   written : writeRest end r rs (openBytes s end r) ≡ wrote (drop end s) left
 
@@ -141,7 +141,7 @@ form-written f s b vs e =
     ap (writeFields header fs) (both .joined) ∙ fields-written fs (proper f) s header b (w .room) (both .first) (both .second) (both .first-is) header
     in
     let after : afterFields fs vs ≡ both .second = wrote-after fs header vs (part s header (widths fs)) (both .second) fields in
-    let right : restFits r (afterFields fs vs) opens ≡ true = ap (λ (l : List Value). restFits r l opens) after ∙ w .right in
+    let right : restFits r (afterFields fs vs) (length opens) ≡ true = ap (λ (l : List Value). restFits r l (length opens)) after ∙ w .right in
     rw (right, fields, w .written, front-back s (widths fs))
 
 -- ---- what was written is read back
@@ -162,7 +162,7 @@ no-elements [] e = refl
 no-elements (x ∷ xs) e = absurd (omega (arith, eqb-true (suc (length xs)) 0 e))
 
 words-rest : (most count : ℕ) (es : List Value) (opens cs : List ℕ) (xs : List Value) (t : List ℕ) (end : ℕ) → length es ≡ most → Naturals es
-    → restFits (words most) (natural count ∷ es) opens ≡ true → writeFields end (entries count) es ≡ wrote cs xs
+    → restFits (words most) (natural count ∷ es) (length opens) ≡ true → writeFields end (entries count) es ≡ wrote cs xs
     → drop end t ≡ cs → length t ≡ end + length cs → RestRead (words most) (natural count ∷ es) opens t end
 words-rest most count es opens cs xs t end len nat right w d n =
     let inside = and-left (leb 1 count && leb count most) (eqb (length opens) 0) right in
@@ -179,7 +179,7 @@ words-rest most count es opens cs xs t end len nat right w d n =
       open-is = no-elements opens (and-right (leb 1 count && leb count most) (eqb (length opens) 0) right);
     }
 
-rest-read : (r : Rest) (ws : List Value) (opens cs : List ℕ) (xs : List Value) (t : List ℕ) (end : ℕ) → Shaped r ws → restFits r ws opens ≡ true → writeRest end r ws opens ≡ wrote cs xs
+rest-read : (r : Rest) (ws : List Value) (opens cs : List ℕ) (xs : List Value) (t : List ℕ) (end : ℕ) → Shaped r ws → restFits r ws (length opens) ≡ true → writeRest end r ws opens ≡ wrote cs xs
     → drop end t ≡ cs → length t ≡ end + length cs → RestRead r ws opens t end
 rest-read nothing ws opens cs xs t end shape right w d n =
     let none : [] ≡ cs = cc in
@@ -197,13 +197,13 @@ rest-read (openRun least most) ws opens cs xs t end shape right w d n =
     }
 rest-read (words most) ws opens cs xs t end shape right w d n =
     let is : ws ≡ natural (shape .0) ∷ shape .1 = shape .2 in
-    let right′ : restFits (words most) (natural (shape .0) ∷ shape .1) opens ≡ true = rw is at right in
+    let right′ : restFits (words most) (natural (shape .0) ∷ shape .1) (length opens) ≡ true = rw is at right in
     let w′ : writeRest end (words most) (natural (shape .0) ∷ shape .1) opens ≡ wrote cs xs = rw is at w in
     rw is (words-rest most (shape .0) (shape .1) opens cs xs t end (shape .3) (shape .4) right′ w′ d n)
 
 -- a form that was written: its rest was right, and its fields and rest were written
 record Wrote (f : Form) (vs : List Value) (opens t : List ℕ) : Type 0 where
-  right : restFits (layout f .rest) (afterFields (layout f .fields) vs) opens ≡ true
+  right : restFits (layout f .rest) (afterFields (layout f .fields) vs) (length opens) ≡ true
   front : List ℕ
   left : List Value
   front-is : writeFields header (layout f .fields) vs ≡ wrote front left
@@ -236,13 +236,13 @@ was-written f vs opens t e =
     let r : Rest = layout f .rest in
     let end : ℕ = header + widths fs in
     ⊎-elim
-    (λ (yes : restFits r (afterFields fs vs) opens ≡ true).
+    (λ (yes : restFits r (afterFields fs vs) (length opens) ≡ true).
     let j = joined f end r opens (writeFields header fs vs) t (rw yes at e) in
     record { right = yes; front = j .front; left = j .left; front-is = j .front-is; back = j .back; over = j .over; back-is = j .back-is; bytes = j .bytes })
-    (λ (no : restFits r (afterFields fs vs) opens ≡ false).
+    (λ (no : restFits r (afterFields fs vs) (length opens) ≡ false).
     let a : Encode'.refused 6 0 ≡ encoded t = rw no at e in
     let z : _≡_ {A = ℕ} 0 1 = cc in absurd (omega arith))
-    (which (restFits r (afterFields fs vs) opens))
+    (which (restFits r (afterFields fs vs) (length opens)))
 
 pub record FormRead (f : Form) (vs : List Value) (opens t : List ℕ) : Type 0 where
   pub body : List ℕ
@@ -268,7 +268,7 @@ form-read f vs opens t shape e =
     let first : take (widths fs) body ≡ w .front = take-at (w .front) (w .back) (widths fs) long in
     let rest : drop end u ≡ w .back = sym (drop-drop (widths fs) header u) ∙ drop-at (w .front) (w .back) (widths fs) long in
     let shape′ : Shaped r (w .left) = rw after at shape in
-    let right′ : restFits r (w .left) opens ≡ true = rw after at (w .right) in
+    let right′ : restFits r (w .left) (length opens) ≡ true = rw after at (w .right) in
     let fields = fields-read fs (proper f) header vs (w .front) (w .left) (w .front-is) u header (omega arith) first in
     let back = rest-read r (w .left) opens (w .back) (w .over) u end shape′ right′ (w .back-is) rest (omega arith) in
     let read : decodeForm f u ≡ accepted f (settledValues (layout f) vs) = rw (back .size, fields .read, back .read, fields .is, after) in

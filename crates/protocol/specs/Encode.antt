@@ -104,11 +104,12 @@ abbrev pub writeFields : ℕ → List Field → List Value → Written
 writeFields at [] vs = wrote [] vs
 writeFields at (f ∷ fs) vs = elim (stepField f vs) [ bad ↦ outside at | good bs ws ↦ before bs (writeFields (at + width f) fs ws) ]
 
--- whether what follows the fields is right: open bytes within their range, none where there are none; of words a count from one to the most
-abbrev pub restFits : Rest → List Value → List ℕ → Bool
-restFits nothing vs opens = eqb (length opens) 0
-restFits (openRun least most) vs opens = between least most (length opens)
-restFits (words most) vs opens = between 1 most (naturalAt vs 0) && eqb (length opens) 0
+-- whether what follows the fields is right, by the number of open bytes: within their range, none where there are none; of
+-- words a count from one to the most
+abbrev pub restFits : Rest → List Value → ℕ → Bool
+restFits nothing vs count = eqb count 0
+restFits (openRun least most) vs count = between least most count
+restFits (words most) vs count = between 1 most (naturalAt vs 0) && eqb count 0
 
 -- what follows the fields, from a place on: of words as many as the first value says; those past the count are not among the fields
 abbrev pub writeRest : ℕ → Rest → List Value → List ℕ → Written
@@ -156,7 +157,7 @@ frontValues (f ∷ fs) vs = frontValue f vs ++ frontValues fs (afterField f vs)
 unfoldable pub encodeForm : Form → List Value → List ℕ → Encoded
 encodeForm f vs opens =
     let l = layout f in
-    cond (restFits (l .rest) (afterFields (l .fields) vs) opens)
+    cond (restFits (l .rest) (afterFields (l .fields) vs) (length opens))
     (closed f (thenRest (header + widths (l .fields)) (l .rest) opens (writeFields header (l .fields) vs)))
     (refused 6 0)
 

@@ -4,6 +4,7 @@ pub mod Field
 pub mod Properties
 pub mod Form
 pub mod Types
+pub mod Writing
 pub mod Decode
 pub mod Answer
 pub mod Encode

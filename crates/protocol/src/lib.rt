@@ -210,3 +210,9 @@ pub enum Reading {
     Accepted(Message),
     Refused { number: u8, place: u16 },
 }
+
+// What writing gives: the message's length, or the number and place of the refusal.
+pub enum Written {
+    Length(u16),
+    Refused { number: u8, place: u16 },
+}

@@ -1,8 +1,8 @@
 use mathlib.Core.Bool.{or-false}
 use Rattle.protocol.specs.Form.{alertStatus}
-use Rattle.hub_messages.proofs.hub.is_alert_status.Statement.{statement}
+use Rattle.hub_messages.proofs.rule.is_alert_status.Statement.{statement}
 use borrow.Author.Tests.{eq-eqb, ne-eqb}
-use Rattle.hub_messages.proofs.hub.is_alert_status.Tie as tie
+use Rattle.hub_messages.proofs.rule.is_alert_status.Tie as tie
 
 returns : tie.Need-returns
 unfolding alertStatus

@@ -4,9 +4,9 @@ use mathlib.Core.Bool.{false}
 use lib.Dec.{leb, eqb}
 use mathlib.Core.Bool.{or-false}
 use Rattle.protocol.specs.Form.{informationType}
-use Rattle.codec.proofs.port.is_information_type.Statement.{statement}
+use Rattle.hub_messages.proofs.rule.is_information_type.Statement.{statement}
 use borrow.Author.Tests.{eq-eqb, le-leb, lt-leb, ne-eqb}
-use Rattle.codec.proofs.port.is_information_type.Tie as tie
+use Rattle.hub_messages.proofs.rule.is_information_type.Tie as tie
 
 last : (n : ℕ) → leb n 5 ≡ false → eqb n 7 ≡ false → eqb n 8 ≡ false → eqb n 128 ≡ informationType n
 unfolding informationType

@@ -1,0 +1,2 @@
+// Writing one message.
+mod slot;
