@@ -1,3 +1,4 @@
-pub mod Ranges
-pub mod Signed
 pub mod Over
+pub mod Ranges
+pub mod Rows
+pub mod Signed

@@ -1,2 +1,3 @@
 // Writing one message.
+mod form;
 mod slot;
