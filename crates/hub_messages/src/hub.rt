@@ -13,7 +13,7 @@ ghost use Rattle.protocol.specs.Types.{hubActions, hubAlerts, downAction};
 ghost use Rattle.protocol.specs.Decode.{decodeForm, decodeType};
 ghost use Rattle.protocol.specs.Answer.{answerOf};
 
-fn is_down_action(action: u8) -> bool
+pub fn is_down_action(action: u8) -> bool
     ensures { λ r. ⌜ r ≡ downAction action ⌝ }
 {
     if action < 0x01 {

@@ -418,3 +418,7 @@ pub refused-only : RefusedOnly
 refused-only way m opens number place e s b d o =
     let written : encode way m opens ≡ encoded s = ap (encode way m) (sym o) ∙ read-then-written way s b m d in
     let z : _≡_ {A = ℕ} 0 1 = cc in absurd (omega arith)
+
+-- what writing gives is no longer than 127 bytes
+pub written-short : (m : Message) (opens t : List ℕ) → encodeForm (formOf m) (valuesOf m) opens ≡ encoded t → length t ≤ 127
+written-short m opens t e = short (formOf m) (length t) (form-read (formOf m) (valuesOf m) opens t (settling m .0) e .size)

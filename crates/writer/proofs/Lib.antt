@@ -1,3 +1,5 @@
+pub mod Choices
+pub mod Encoding
 pub mod Over
 pub mod Ranges
 pub mod Rows

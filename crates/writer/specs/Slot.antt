@@ -113,6 +113,16 @@ pub record Slotted (m : Message) (slots : List Slot) : Type 0 where
   pub fields : slotFields slots ≡ number 1 any ∷ (layout (formOf m) .fields ++ wordFields (layout (formOf m) .rest) (afterFields (layout (formOf m) .fields) (valuesOf m)))
   pub values : slotValues slots ≡ natural (code (formOf m)) ∷ (frontValues (layout (formOf m) .fields) (valuesOf m) ++ wordValues (layout (formOf m) .rest) (afterFields (layout (formOf m) .fields) (valuesOf m)))
 
+-- the bytes of slots
+abbrev pub slotsBytes : List Slot → List ℕ
+slotsBytes [] = []
+slotsBytes (s ∷ ss) = slotBytes s ++ slotsBytes ss
+
+-- the place of the first of them, from a place on, that does not hold its value; 0 where all do
+abbrev pub firstOutside : ℕ → List Slot → ℕ
+firstOutside at [] = 0
+firstOutside at (s ∷ ss) = cond (slotFits s) (firstOutside (at + length (slotBytes s)) ss) at
+
 -- bytes laid over a list from a place on
 unfoldable pub over : List ℕ → ℕ → List ℕ → List ℕ
 over out at bytes = take at out ++ bytes ++ drop (at + length bytes) out

@@ -1,3 +1,4 @@
 // Writing one message.
 mod form;
+mod selector;
 mod slot;

@@ -1,0 +1,282 @@
+-- Writing a message is writing its slots.
+use Prim.Native.Nat.{ℕ, zero, suc, _+_, _%_, _≤_, _<_}
+use native.Mathlib.Nat.{add-zero}
+use native.Mathlib.Omega.{arith}
+use mathlib.Core.Path.{_≡_, refl, sym, _∙_, ap}
+use mathlib.Core.Bool.{Bool, true, false, cond, _&&_}
+use mathlib.Core.List.{List, [], _∷_, _++_, append-nil, append-assoc}
+use mathlib.Core.Logic.{⊎-elim}
+use borrow.Author.Tests.{eqb-true, eq-eqb, leb-true, le-leb}
+use lib.Dec.{eqb, leb, ltb}
+use lib.ListN.{length, take, drop, replicate, take-append-drop}
+use Rattle.protocol.proofs.Tests.{which, and-left, and-right}
+use Rattle.protocol.specs.Rule.{any, upTo, between}
+use Rattle.protocol.specs.Field.{Field, number, highFirst, signed, float, fixed, Value, natural, integer, real, width, widths}
+use Rattle.protocol.specs.Form
+use Rattle.protocol.specs.Form.{Form, informationType, alertStatus, bootString, lockString, Rest, nothing, openRun, words, layout, code}
+use Rattle.protocol.specs.Answer.{formOf, valuesOf, naturalAt}
+use Rattle.protocol.specs.Encode.{Encoded, encoded, refused, Step, good, bad, stepField, taken, holds, fieldBytes, lowFirst, Written, outside, wrote, before, writeFields, restFits, writeRest, thenRest, framed, closed, afterField, afterFields, frontValue, frontValues, encodeForm}
+use Rattle.protocol.specs.declared.Combinations.{Combinations}
+use Rattle.protocol.specs.declared.Message.{Message}
+use Rattle.protocol.specs.declared.Message.the-variants as Message'
+use Rattle.writer.proofs.Ranges.{slotWidth, wide}
+use Rattle.writer.specs.Slot.{slotFits, slotBytes, slotFields, slotValues, Slotted, atMost, wordFields, wordValues, slotsBytes, firstOutside}
+use Rattle.writer.specs.declared.slot.Slot.{Slot}
+use Rattle.writer.specs.declared.slot.Slot.the-variants as Slot'
+
+-- ---- slots, written one after the other
+
+abbrev pub rowWritten : ℕ → List Slot → Written
+rowWritten at [] = wrote [] []
+rowWritten at (s ∷ ss) = cond (slotFits s) (before (slotBytes s) (rowWritten (at + length (slotBytes s)) ss)) (outside at)
+
+-- all hold their values
+pub all-written : (at : ℕ) (ss : List Slot) → 1 ≤ at → firstOutside at ss ≡ 0 → rowWritten at ss ≡ wrote (slotsBytes ss) []
+all-written at [] h e = refl
+all-written at (s ∷ ss) h e =
+    ⊎-elim
+    (λ (yes : slotFits s ≡ true).
+    rw yes (ap (before (slotBytes s)) (all-written (at + length (slotBytes s)) ss (omega arith) (rw yes at e))))
+    (λ (no : slotFits s ≡ false). let z : at ≡ 0 = rw no at e in absurd (omega arith))
+    (which (slotFits s))
+
+-- one does not
+pub not-written : (at : ℕ) (ss : List Slot) → (firstOutside at ss ≡ 0 → ⊥) → rowWritten at ss ≡ outside (firstOutside at ss)
+not-written at [] h = absurd (h refl)
+not-written at (s ∷ ss) h =
+    ⊎-elim
+    (λ (yes : slotFits s ≡ true).
+    rw yes (ap (before (slotBytes s)) (not-written (at + length (slotBytes s)) ss (λ (z : firstOutside (at + length (slotBytes s)) ss ≡ 0). h (rw yes z)))))
+    (λ (no : slotFits s ≡ false). rw no)
+    (which (slotFits s))
+
+-- ---- they are fields with values
+
+before-none : (w : Written) → before [] w ≡ w
+before-none (outside at) = refl
+before-none (wrote bs vs) = refl
+
+stepped : (b : Bool) (bs : List ℕ) (f : Field) (at : ℕ) (fs : List Field) (us : List Value) (x : Written) → writeFields (at + width f) fs us ≡ x
+    → elim (cond b (good bs us) bad) [ bad ↦ outside at | good cs ws ↦ before cs (writeFields (at + width f) fs ws) ] ≡ cond b (before bs x) (outside at)
+stepped true bs f at fs us x e = ap (before bs) e
+stepped false bs f at fs us x e = refl
+
+slot-first : (s : Slot) (v : Value) (f : Field) (at : ℕ) (ss : List Slot) → width f ≡ length (fieldBytes f v)
+    → writeFields (at + length (fieldBytes f v)) (slotFields ss) (slotValues ss) ≡ rowWritten (at + length (fieldBytes f v)) ss
+    → elim (taken f (v ∷ slotValues ss)) [ bad ↦ outside at | good cs ws ↦ before cs (writeFields (at + width f) (slotFields ss) ws) ] ≡ cond (holds f v) (before (fieldBytes f v) (rowWritten (at + length (fieldBytes f v)) ss)) (outside at)
+slot-first s v f at ss w e =
+    stepped (holds f v) (fieldBytes f v) f at (slotFields ss) (slotValues ss) (rowWritten (at + length (fieldBytes f v)) ss)
+    (ap (λ (k : ℕ). writeFields (at + k) (slotFields ss) (slotValues ss)) w ∙ e)
+
+pub as-fields : (at : ℕ) (ss : List Slot) → writeFields at (slotFields ss) (slotValues ss) ≡ rowWritten at ss
+unfolding slotFits slotBytes
+as-fields at [] = refl
+as-fields at (Slot'.Nothing ∷ ss) = as-fields at ss ∙ sym (before-none (rowWritten (at + 0) ss) ∙ ap (λ (k : ℕ). rowWritten k ss) (add-zero at))
+as-fields at (Slot'.Byte v ∷ ss) = slot-first (Slot'.Byte v) (natural v) (number 1 any) at ss (sym (wide (Slot'.Byte v))) (as-fields (at + length (slotBytes (Slot'.Byte v))) ss)
+as-fields at (Slot'.UpTo most v ∷ ss) = slot-first (Slot'.UpTo most v) (natural v) (number 1 (upTo most)) at ss (sym (wide (Slot'.UpTo most v))) (as-fields (at + length (slotBytes (Slot'.UpTo most v))) ss)
+as-fields at (Slot'.Between least most v ∷ ss) = slot-first (Slot'.Between least most v) (natural v) (number 1 (between least most)) at ss (sym (wide (Slot'.Between least most v))) (as-fields (at + length (slotBytes (Slot'.Between least most v))) ss)
+as-fields at (Slot'.InformationType v ∷ ss) = slot-first (Slot'.InformationType v) (natural v) (number 1 informationType) at ss (sym (wide (Slot'.InformationType v))) (as-fields (at + length (slotBytes (Slot'.InformationType v))) ss)
+as-fields at (Slot'.AlertStatus v ∷ ss) = slot-first (Slot'.AlertStatus v) (natural v) (number 1 alertStatus) at ss (sym (wide (Slot'.AlertStatus v))) (as-fields (at + length (slotBytes (Slot'.AlertStatus v))) ss)
+as-fields at (Slot'.Word v ∷ ss) = slot-first (Slot'.Word v) (natural v) (number 2 any) at ss (sym (wide (Slot'.Word v))) (as-fields (at + length (slotBytes (Slot'.Word v))) ss)
+as-fields at (Slot'.Long v ∷ ss) = slot-first (Slot'.Long v) (natural v) (number 4 any) at ss (sym (wide (Slot'.Long v))) (as-fields (at + length (slotBytes (Slot'.Long v))) ss)
+as-fields at (Slot'.SignedByte v ∷ ss) = slot-first (Slot'.SignedByte v) (integer v) (signed 1) at ss (sym (wide (Slot'.SignedByte v))) (as-fields (at + length (slotBytes (Slot'.SignedByte v))) ss)
+as-fields at (Slot'.SignedLong v ∷ ss) = slot-first (Slot'.SignedLong v) (integer v) (signed 4) at ss (sym (wide (Slot'.SignedLong v))) (as-fields (at + length (slotBytes (Slot'.SignedLong v))) ss)
+as-fields at (Slot'.HighFirst v ∷ ss) = slot-first (Slot'.HighFirst v) (natural v) (highFirst 6) at ss (sym (wide (Slot'.HighFirst v))) (as-fields (at + length (slotBytes (Slot'.HighFirst v))) ss)
+as-fields at (Slot'.Float x ∷ ss) = slot-first (Slot'.Float x) (real x) (float) at ss (sym (wide (Slot'.Float x))) (as-fields (at + length (slotBytes (Slot'.Float x))) ss)
+as-fields at (Slot'.BootString ∷ ss) = ap (before bootString) (as-fields (at + length bootString) ss)
+as-fields at (Slot'.LockString ∷ ss) = ap (before lockString) (as-fields (at + length lockString) ss)
+
+-- ---- a message
+
+-- the bytes of slots from the type byte on, with the open bytes and the front of the header
+abbrev pub finish : List ℕ → Written → Encoded
+finish opens (outside at) = refused 7 at
+finish opens (wrote bs vs) = encoded ((2 + length (bs ++ opens)) ∷ 0 ∷ (bs ++ opens))
+
+-- forms without words
+abbrev Plain : Rest → Type 0
+Plain nothing = Unit {0}
+Plain (openRun least most) = Unit {0}
+Plain (words most) = ⊥
+
+abbrev withOpen : List ℕ → Written → Written
+withOpen opens (outside at) = outside at
+withOpen opens (wrote bs vs) = wrote (bs ++ opens) vs
+
+no-bytes : (opens : List ℕ) → length opens ≡ 0 → opens ≡ []
+no-bytes [] e = refl
+no-bytes (b ∷ bs) e = absurd (omega arith)
+
+plain-written : (r : Rest) → Plain r → (us : List Value) (opens : List ℕ) → restFits r us (length opens) ≡ true → (at : ℕ) (w : Written) → thenRest at r opens w ≡ withOpen opens w
+plain-written nothing p us opens e at (outside k) = refl
+plain-written nothing p us opens e at (wrote bs vs) = ap (λ (l : List ℕ). wrote (bs ++ l) vs) (sym (no-bytes opens (eqb-true (length opens) 0 e)))
+plain-written (openRun least most) p us opens e at (outside k) = refl
+plain-written (openRun least most) p us opens e at (wrote bs vs) = refl
+plain-written (words most) p us opens e at w = absurd p
+
+plain-fields : (r : Rest) → Plain r → (fs : List Field) (us : List Value) → fs ++ wordFields r us ≡ fs
+plain-fields nothing p fs us = append-nil fs
+plain-fields (openRun least most) p fs us = append-nil fs
+plain-fields (words most) p fs us = absurd p
+
+plain-values : (r : Rest) → Plain r → (us : List Value) → wordValues r us ≡ us
+plain-values nothing p us = refl
+plain-values (openRun least most) p us = refl
+plain-values (words most) p us = absurd p
+
+front-one : (f : Field) (vs : List Value) → frontValue f vs ++ afterField f vs ≡ vs
+front-one (number w rule) vs = take-append-drop 1 vs
+front-one (highFirst w) vs = take-append-drop 1 vs
+front-one (signed w) vs = take-append-drop 1 vs
+front-one float vs = take-append-drop 1 vs
+front-one (fixed bytes) vs = refl
+
+front-after : (fs : List Field) (vs : List Value) → frontValues fs vs ++ afterFields fs vs ≡ vs
+front-after [] vs = refl
+front-after (f ∷ fs) vs =
+    append-assoc (frontValue f vs) (frontValues fs (afterField f vs)) (afterFields fs (afterField f vs))
+    ∙ ap (λ (l : List Value). frontValue f vs ++ l) (front-after fs (afterField f vs)) ∙ front-one f vs
+
+closing : (f : Form) (opens : List ℕ) (w : Written) → closed f (withOpen opens w) ≡ finish opens (before (code f ∷ []) w)
+closing f opens (outside at) = refl
+closing f opens (wrote bs vs) =
+    let size : 3 + length (bs ++ opens) ≡ 2 + suc (length (bs ++ opens)) = omega arith in
+    ap (λ (n : ℕ). encoded (n ∷ 0 ∷ code f ∷ (bs ++ opens))) size
+
+type-byte : (c : ℕ) (fs : List Field) (vs : List Value) → ltb c 256 ≡ true → c % 256 ≡ c → before (c ∷ []) (writeFields 3 fs vs) ≡ writeFields 2 (number 1 any ∷ fs) (natural c ∷ vs)
+unfolding lowFirst
+type-byte c fs vs small same =
+    sym
+    (stepped (ltb c 256 && true) (lowFirst 1 c) (number 1 any) 2 fs vs (writeFields 3 fs vs) refl
+    ∙ ap (λ (b : Bool). cond (b && true) (before (lowFirst 1 c) (writeFields 3 fs vs)) (outside 2)) small
+    ∙ ap (λ (n : ℕ). before (n ∷ []) (writeFields 3 fs vs)) same)
+
+plain-slots : (m : Message) (opens : List ℕ) (slots : List Slot) → Plain (layout (formOf m) .rest) → ltb (code (formOf m)) 256 ≡ true → code (formOf m) % 256 ≡ code (formOf m) → Slotted m slots
+    → restFits (layout (formOf m) .rest) (afterFields (layout (formOf m) .fields) (valuesOf m)) (length opens) ≡ true
+    → encodeForm (formOf m) (valuesOf m) opens ≡ finish opens (rowWritten 2 slots)
+unfolding encodeForm
+plain-slots m opens slots plain small same x right =
+    let f : Form = formOf m in
+    let vs : List Value = valuesOf m in
+    let fs : List Field = layout f .fields in
+    let r : Rest = layout f .rest in
+    let w : Written = writeFields 3 fs vs in
+    let fields : slotFields slots ≡ number 1 any ∷ fs = x .fields ∙ ap (λ (l : List Field). number 1 any ∷ l) (plain-fields r plain fs (afterFields fs vs)) in
+    let values : slotValues slots ≡ natural (code f) ∷ vs =
+    x .values ∙ ap (λ (l : List Value). natural (code f) ∷ (frontValues fs vs ++ l)) (plain-values r plain (afterFields fs vs)) ∙ ap (λ (l : List Value). natural (code f) ∷ l) (front-after fs vs)
+    in
+    rw right
+    (ap (closed f) (plain-written r plain (afterFields fs vs) opens right (3 + widths fs) w) ∙ closing f opens w
+    ∙ ap (finish opens) (type-byte (code f) fs vs small same)
+    ∙ ap (λ (gs : List Field). finish opens (writeFields 2 gs (natural (code f) ∷ vs))) (sym fields)
+    ∙ ap (λ (us : List Value). finish opens (writeFields 2 (slotFields slots) us)) (sym values)
+    ∙ ap (finish opens) (as-fields 2 slots))
+
+-- ---- the list of a 43
+
+-- what is left over plays no part
+abbrev bytesOnly : Written → Written
+bytesOnly (outside at) = outside at
+bytesOnly (wrote bs vs) = wrote bs []
+
+finish-bytes : (opens : List ℕ) (w : Written) → finish opens w ≡ finish opens (bytesOnly w)
+finish-bytes opens (outside at) = refl
+finish-bytes opens (wrote bs vs) = refl
+
+bytes-before : (bs : List ℕ) (v w : Written) → bytesOnly v ≡ bytesOnly w → bytesOnly (before bs v) ≡ bytesOnly (before bs w)
+bytes-before bs (outside a) (outside b) e = e
+bytes-before bs (outside a) (wrote cs vs) e = let z : _≡_ {A = ℕ} 0 1 = cc in absurd (omega arith)
+bytes-before bs (wrote cs vs) (outside b) e = let z : _≡_ {A = ℕ} 0 1 = cc in absurd (omega arith)
+bytes-before bs (wrote cs vs) (wrote ds us) e = let same : cs ≡ ds = cc in ap (λ (l : List ℕ). wrote (bs ++ l) []) same
+
+abbrev word : Field
+word = number 2 any
+
+as-many : (n at : ℕ) (es : List Value) → bytesOnly (writeFields at (replicate n word) es) ≡ bytesOnly (writeFields at (replicate n word) (take n es))
+as-many zero at es = refl
+as-many (suc n) at [] = refl
+as-many (suc n) at (e ∷ es) = go (holds word e) (as-many n (at + 2) es)
+  where
+    go : (b : Bool) → bytesOnly (writeFields (at + 2) (replicate n word) es) ≡ bytesOnly (writeFields (at + 2) (replicate n word) (take n es))
+        → bytesOnly (elim (cond b (good (fieldBytes word e) es) bad) [ bad ↦ outside at | good cs ws ↦ before cs (writeFields (at + 2) (replicate n word) ws) ])
+        ≡ bytesOnly (elim (cond b (good (fieldBytes word e) (take n es)) bad) [ bad ↦ outside at | good cs ws ↦ before cs (writeFields (at + 2) (replicate n word) ws) ])
+    go true k = bytes-before (fieldBytes word e) (writeFields (at + 2) (replicate n word) es) (writeFields (at + 2) (replicate n word) (take n es)) k
+    go false k = refl
+
+joined : (a : ℕ) (v w : Written) → bytesOnly v ≡ bytesOnly w → closed Form.portCombinations (before (a ∷ 2 ∷ []) v) ≡ finish [] (before (67 ∷ []) (before (a ∷ []) (before (2 ∷ []) w)))
+joined a (outside i) (outside j) e = let same : i ≡ j = cc in ap (refused 7) same
+joined a (outside i) (wrote cs vs) e = let z : _≡_ {A = ℕ} 0 1 = cc in absurd (omega arith)
+joined a (wrote cs vs) (outside j) e = let z : _≡_ {A = ℕ} 0 1 = cc in absurd (omega arith)
+joined a (wrote cs vs) (wrote ds us) e =
+    let same : cs ≡ ds = cc in
+    let whole : ds ≡ ds ++ [] = sym (append-nil ds) in
+    let size : 3 + length (a ∷ 2 ∷ ds) ≡ 2 + length (67 ∷ a ∷ 2 ∷ ds) = omega arith in
+    ap (λ (l : List ℕ). encoded (framed 67 (a ∷ 2 ∷ l))) same ∙ ap (λ (n : ℕ). encoded (n ∷ 0 ∷ 67 ∷ a ∷ 2 ∷ ds)) size
+    ∙ ap (λ (l : List ℕ). encoded ((2 + length (67 ∷ a ∷ 2 ∷ l)) ∷ 0 ∷ 67 ∷ a ∷ 2 ∷ l)) whole
+
+combined-slots : (p : ℕ) (k : Combinations) (opens : List ℕ) (slots : List Slot) → Slotted (Message'.PortCombinations p k) slots
+    → restFits (layout Form.portCombinations .rest) (afterFields (layout Form.portCombinations .fields) (valuesOf (Message'.PortCombinations p k))) (length opens) ≡ true
+    → encodeForm Form.portCombinations (valuesOf (Message'.PortCombinations p k)) opens ≡ finish opens (rowWritten 2 slots)
+unfolding encodeForm layout lowFirst
+combined-slots p k opens slots x right =
+    let count : ℕ = k .count in
+    let es : List Value = drop 3 (valuesOf (Message'.PortCombinations p k)) in
+    let inside : (leb 1 count && leb count 8) ≡ true = and-left (leb 1 count && leb count 8) (eqb (length opens) 0) right in
+    let all : atMost 8 count ≡ count = rw (and-right (leb 1 count) (leb count 8) inside) in
+    let none : opens ≡ [] = no-bytes opens (eqb-true (length opens) 0 (and-right (leb 1 count && leb count 8) (eqb (length opens) 0) right)) in
+    let fields : slotFields slots ≡ number 1 any ∷ number 1 any ∷ number 1 any ∷ replicate count word =
+    x .fields ∙ ap (λ (n : ℕ). number 1 any ∷ number 1 any ∷ number 1 any ∷ replicate n word) all
+    in
+    let values : slotValues slots ≡ natural 67 ∷ natural p ∷ natural 2 ∷ take count es =
+    x .values ∙ ap (λ (n : ℕ). natural 67 ∷ natural p ∷ natural 2 ∷ take n es) all
+    in
+    rw (right, none)
+    (go (ltb p 256 && true) count es (as-many count 5 es)
+    ∙ ap (λ (gs : List Field). finish [] (writeFields 2 gs (natural 67 ∷ natural p ∷ natural 2 ∷ take count es))) (sym fields)
+    ∙ ap (λ (us : List Value). finish [] (writeFields 2 (slotFields slots) us)) (sym values)
+    ∙ ap (finish []) (as-fields 2 slots))
+  where
+    go : (b : Bool) (count : ℕ) (es : List Value) → bytesOnly (writeFields 5 (replicate count word) es) ≡ bytesOnly (writeFields 5 (replicate count word) (take count es))
+        → closed Form.portCombinations (thenRest 5 (words 8) [] (elim (cond b (good (p % 256 ∷ []) (natural 2 ∷ natural count ∷ es)) bad) [ bad ↦ outside 3 | good cs ws ↦ before cs (writeFields 4 (number 1 any ∷ []) ws) ]))
+        ≡ finish [] (before (67 ∷ []) (elim (cond b (good (p % 256 ∷ []) (natural 2 ∷ take count es)) bad) [ bad ↦ outside 3 | good cs ws ↦ before cs (writeFields 4 (number 1 any ∷ replicate count word) ws) ]))
+    go true count es e = joined (p % 256) (writeFields 5 (replicate count word) es) (writeFields 5 (replicate count word) (take count es)) e
+    go false count es e = refl
+
+-- a message is written as its slots
+pub by-slots : (m : Message) (opens : List ℕ) (slots : List Slot) → Slotted m slots
+    → restFits (layout (formOf m) .rest) (afterFields (layout (formOf m) .fields) (valuesOf m)) (length opens) ≡ true
+    → encodeForm (formOf m) (valuesOf m) opens ≡ finish opens (rowWritten 2 slots)
+unfolding layout
+by-slots (Message'.PropertyCommand p o) opens slots x right = plain-slots (Message'.PropertyCommand p o) opens slots tt refl refl x right
+by-slots (Message'.PropertyText p o) opens slots x right = plain-slots (Message'.PropertyText p o) opens slots tt refl refl x right
+by-slots (Message'.PropertyByte p o v) opens slots x right = plain-slots (Message'.PropertyByte p o v) opens slots tt refl refl x right
+by-slots (Message'.PropertyRssi o v) opens slots x right = plain-slots (Message'.PropertyRssi o v) opens slots tt refl refl x right
+by-slots (Message'.PropertyVersion p o v) opens slots x right = plain-slots (Message'.PropertyVersion p o v) opens slots tt refl refl x right
+by-slots (Message'.PropertyProtocol o v) opens slots x right = plain-slots (Message'.PropertyProtocol o v) opens slots tt refl refl x right
+by-slots (Message'.PropertyAddress p o v) opens slots x right = plain-slots (Message'.PropertyAddress p o v) opens slots tt refl refl x right
+by-slots (Message'.HubAction a) opens slots x right = plain-slots (Message'.HubAction a) opens slots tt refl refl x right
+by-slots (Message'.AlertCommand a o) opens slots x right = plain-slots (Message'.AlertCommand a o) opens slots tt refl refl x right
+by-slots (Message'.AlertUpdate a v) opens slots x right = plain-slots (Message'.AlertUpdate a v) opens slots tt refl refl x right
+by-slots (Message'.Detached p) opens slots x right = plain-slots (Message'.Detached p) opens slots tt refl refl x right
+by-slots (Message'.Attached p d h s) opens slots x right = plain-slots (Message'.Attached p d h s) opens slots tt refl refl x right
+by-slots (Message'.AttachedVirtual p d a b) opens slots x right = plain-slots (Message'.AttachedVirtual p d a b) opens slots tt refl refl x right
+by-slots (Message'.GenericError k e) opens slots x right = plain-slots (Message'.GenericError k e) opens slots tt refl refl x right
+by-slots Message'.GoIntoBootMode opens slots x right = plain-slots Message'.GoIntoBootMode opens slots tt refl refl x right
+by-slots Message'.LockMemory opens slots x right = plain-slots Message'.LockMemory opens slots tt refl refl x right
+by-slots Message'.LockStatusRequest opens slots x right = plain-slots Message'.LockStatusRequest opens slots tt refl refl x right
+by-slots (Message'.LockStatus v) opens slots x right = plain-slots (Message'.LockStatus v) opens slots tt refl refl x right
+by-slots (Message'.PortInformationRequest p i) opens slots x right = plain-slots (Message'.PortInformationRequest p i) opens slots tt refl refl x right
+by-slots (Message'.ModeInformationRequest p m i) opens slots x right = plain-slots (Message'.ModeInformationRequest p m i) opens slots tt refl refl x right
+by-slots (Message'.InputFormatSetup p m d n) opens slots x right = plain-slots (Message'.InputFormatSetup p m d n) opens slots tt refl refl x right
+by-slots (Message'.PortModes p k n i o) opens slots x right = plain-slots (Message'.PortModes p k n i o) opens slots tt refl refl x right
+by-slots (Message'.PortCombinations p k) opens slots x right = combined-slots p k opens slots x right
+by-slots (Message'.ModeText p m i) opens slots x right = plain-slots (Message'.ModeText p m i) opens slots tt refl refl x right
+by-slots (Message'.ModeRange p m i l h) opens slots x right = plain-slots (Message'.ModeRange p m i l h) opens slots tt refl refl x right
+by-slots (Message'.ModeMapping p m v) opens slots x right = plain-slots (Message'.ModeMapping p m v) opens slots tt refl refl x right
+by-slots (Message'.ModeBias p m v) opens slots x right = plain-slots (Message'.ModeBias p m v) opens slots tt refl refl x right
+by-slots (Message'.ModeCapabilities p m v) opens slots x right = plain-slots (Message'.ModeCapabilities p m v) opens slots tt refl refl x right
+by-slots (Message'.ValueFormat p m n k f d) opens slots x right = plain-slots (Message'.ValueFormat p m n k f d) opens slots tt refl refl x right
+by-slots (Message'.PortValue p) opens slots x right = plain-slots (Message'.PortValue p) opens slots tt refl refl x right
+by-slots (Message'.InputFormat p m d n) opens slots x right = plain-slots (Message'.InputFormat p m d n) opens slots tt refl refl x right
+by-slots (Message'.VirtualDisconnect p) opens slots x right = plain-slots (Message'.VirtualDisconnect p) opens slots tt refl refl x right
+by-slots (Message'.VirtualConnect a b) opens slots x right = plain-slots (Message'.VirtualConnect a b) opens slots tt refl refl x right
