@@ -206,3 +206,11 @@ range-right p m i l h =
     (λ opens.
     range-chosen (oneOf (1 ∷ 2 ∷ 3 ∷ []) i) (oneOf (0 ∷ 4 ∷ []) i) (oneOf information i) (others i) i (own (Message'.ModeRange p m i l h) opens) (range-listed i)
     (other-number (eqb i 5) (eqb i 7) (eqb i 8) .1))
+
+-- ---- a choice that is known
+
+pub by-choice : (way : Way) (m : Message) (opens : List ℕ) (r c : Choice) → Right way m r → r ≡ c → encode way m opens ≡ afterSelectors c (own m opens)
+by-choice way m opens r c x e = x opens ∙ ap (λ (k : Choice). afterSelectors k (own m opens)) e
+
+pub chosen : (way : Way) (m : Message) (opens : List ℕ) (r : Choice) → Right way m r → r ≡ Chosen → encode way m opens ≡ own m opens
+chosen way m opens r x e = by-choice way m opens r Chosen x e

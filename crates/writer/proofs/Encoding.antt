@@ -16,11 +16,14 @@ use Rattle.protocol.specs.Form
 use Rattle.protocol.specs.Form.{Form, informationType, alertStatus, bootString, lockString, Rest, nothing, openRun, words, layout, code}
 use Rattle.protocol.specs.Answer.{formOf, valuesOf, naturalAt}
 use Rattle.protocol.specs.Encode.{Encoded, encoded, refused, Step, good, bad, stepField, taken, holds, fieldBytes, lowFirst, Written, outside, wrote, before, writeFields, restFits, writeRest, thenRest, framed, closed, afterField, afterFields, frontValue, frontValues, encodeForm}
+use Rattle.protocol.specs.Writing.{limited, writtenOf, lentAfter}
+use Rattle.protocol.specs.declared.Written.the-variants as Written'
 use Rattle.protocol.specs.declared.Combinations.{Combinations}
 use Rattle.protocol.specs.declared.Message.{Message}
 use Rattle.protocol.specs.declared.Message.the-variants as Message'
 use Rattle.writer.proofs.Ranges.{slotWidth, wide}
-use Rattle.writer.specs.Slot.{slotFits, slotBytes, slotFields, slotValues, Slotted, atMost, wordFields, wordValues, slotsBytes, firstOutside}
+use Rattle.writer.specs.Slot.{slotFits, slotBytes, slotFields, slotValues, Slotted, atMost, wordFields, wordValues, slotsBytes, firstOutside, messageBytes}
+use Rattle.writer.specs.Open.{openFits}
 use Rattle.writer.specs.declared.slot.Slot.{Slot}
 use Rattle.writer.specs.declared.slot.Slot.the-variants as Slot'
 
@@ -280,3 +283,25 @@ by-slots (Message'.PortValue p) opens slots x right = plain-slots (Message'.Port
 by-slots (Message'.InputFormat p m d n) opens slots x right = plain-slots (Message'.InputFormat p m d n) opens slots tt refl refl x right
 by-slots (Message'.VirtualDisconnect p) opens slots x right = plain-slots (Message'.VirtualDisconnect p) opens slots tt refl refl x right
 by-slots (Message'.VirtualConnect a b) opens slots x right = plain-slots (Message'.VirtualConnect a b) opens slots tt refl refl x right
+
+-- ---- the answers
+
+pub wrong-size : (m : Message) (opens : List ℕ) → openFits m (length opens) ≡ false → encodeForm (formOf m) (valuesOf m) opens ≡ refused 6 0
+unfolding encodeForm openFits
+wrong-size m opens e = rw e
+
+pub a-field-outside : (m : Message) (opens : List ℕ) (slots : List Slot) → Slotted m slots → openFits m (length opens) ≡ true → (firstOutside 2 slots ≡ 0 → ⊥)
+    → encodeForm (formOf m) (valuesOf m) opens ≡ refused 7 (firstOutside 2 slots)
+unfolding openFits
+a-field-outside m opens slots x right n = by-slots m opens slots x right ∙ ap (finish opens) (not-written 2 slots n)
+
+pub all-inside : (m : Message) (opens : List ℕ) (slots : List Slot) → Slotted m slots → openFits m (length opens) ≡ true → firstOutside 2 slots ≡ 0
+    → encodeForm (formOf m) (valuesOf m) opens ≡ encoded (messageBytes slots opens)
+unfolding openFits
+all-inside m opens slots x right e = by-slots m opens slots x right ∙ ap (finish opens) (all-written 2 slots (omega arith) e)
+
+pub refused-answer : (x : Encoded) (n place room : ℕ) (out : List ℕ) → x ≡ refused n place
+    → (Written'.Refused n place ≡ writtenOf (limited room x)) × (out ≡ lentAfter (limited room x) out)
+unfolding limited
+refused-answer x n place room out e =
+    (sym (ap (λ (y : Encoded). writtenOf (limited room y)) e), sym (ap (λ (y : Encoded). lentAfter (limited room y) out) e))

@@ -4,3 +4,5 @@ pub mod Over
 pub mod Ranges
 pub mod Rows
 pub mod Signed
+pub mod Walk
+pub mod Whole

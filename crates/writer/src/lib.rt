@@ -1,4 +1,114 @@
 // Writing one message.
 mod form;
+mod open;
 mod selector;
 mod slot;
+
+use crate::form::slots_of;
+use crate::open::open_fits;
+use crate::selector::Choice;
+use crate::selector::selected;
+use crate::slot::Slot;
+use crate::slot::fits;
+use crate::slot::put_bytes;
+use crate::slot::put_slot;
+use crate::slot::width;
+use protocol::Message;
+use protocol::Way;
+use protocol::Written;
+ghost use mathlib.Core.Path.{_≡_};
+ghost use Prim.Native.Nat.{_+_, _≤_};
+ghost use lib.ListN.{length};
+ghost use Rattle.protocol.specs.Encode.{encode, encoded};
+ghost use Rattle.protocol.specs.Writing.{lentAfter, limited, writtenOf};
+ghost use Rattle.writer.specs.Slot.{firstOutside, messageBytes, over, slotsBytes};
+
+// The place of the first field that does not hold its value; 0 where all do.
+fn first_outside(slots: [Slot; 11]) -> u16
+    requires { ⌜ length slots ≡ 11 ⌝ }
+    ensures { λ r. ⌜ r ≡ firstOutside 2 slots ⌝ }
+{
+    let mut at = 2;
+    let mut i = 0;
+    while i < 11 {
+        if !fits(slots[i]) {
+            return at as u16;
+        }
+        at += width(slots[i]);
+        i += 1;
+    }
+    0
+}
+
+// How many bytes the slots take.
+fn widths(slots: [Slot; 11]) -> usize
+    requires { ⌜ length slots ≡ 11 ⌝ }
+    ensures { λ r. ⌜ (r ≡ length (slotsBytes slots)) × (r ≤ 99) ⌝ }
+{
+    let mut total = 0;
+    let mut i = 0;
+    while i < 11 {
+        total += width(slots[i]);
+        i += 1;
+    }
+    total
+}
+
+// Lays the bytes of the slots over those of `out`, from the type byte on.
+fn put_slots(out: &mut [u8], slots: [Slot; 11])
+    requires { ⌜ (length slots ≡ 11) × (firstOutside 2 slots ≡ 0) × (2 + length (slotsBytes slots) ≤ length (now out)) ⌝ }
+    ensures { λ _. ⌜ now (out .exit) ≡ over (now (out .entry)) 2 (slotsBytes slots) ⌝ }
+{
+    let mut at = 2;
+    let mut i = 0;
+    while i < 11 {
+        put_slot(out, at, slots[i]);
+        at += width(slots[i]);
+        i += 1;
+    }
+}
+
+// Puts a message whose fields hold their values in front of what stands behind it: refusal 8, or its
+// bytes.
+fn put_message(out: &mut [u8], slots: [Slot; 11], open: &[u8]) -> Written
+    requires { ⌜ (length slots ≡ 11) × (firstOutside 2 slots ≡ 0) × (length (messageBytes slots (now «open»)) ≤ 127) ⌝ }
+    ensures { λ r. ⌜ (r ≡ writtenOf (limited (length (now (out .entry))) (encoded (messageBytes slots (now («open» .entry)))))) × (now (out .exit) ≡ lentAfter (limited (length (now (out .entry))) (encoded (messageBytes slots (now («open» .entry))))) (now (out .entry))) ⌝ }
+{
+    let end = 2 + widths(slots);
+    let size = end + open.len();
+    if out.len() < size {
+        return Written::Refused {
+            number: 8,
+            place: 0,
+        };
+    }
+    out[0] = size as u8;
+    out[1] = 0;
+    put_slots(out, slots);
+    put_bytes(out, end, open);
+    Written::Length(size as u16)
+}
+
+// Writes a message and its open bytes into the front of `out`. What is behind it keeps its contents;
+// a refused call changes nothing.
+pub fn write(m: Message, way: Way, open: &[u8], out: &mut [u8]) -> Written
+    ensures { λ r. ⌜ (r ≡ writtenOf (limited (length (now (out .entry))) (encode way m (now («open» .entry))))) × (now (out .exit) ≡ lentAfter (limited (length (now (out .entry))) (encode way m (now («open» .entry)))) (now (out .entry))) ⌝ }
+{
+    match selected(m, way) {
+        Choice::Refused { number, place } => Written::Refused { number, place },
+        Choice::Chosen => {
+            if !open_fits(m, open.len()) {
+                return Written::Refused {
+                    number: 6,
+                    place: 0,
+                };
+            }
+            let slots = slots_of(m);
+            let place = first_outside(slots);
+            if place != 0 {
+                return Written::Refused { number: 7, place };
+            }
+            put_message(out, slots, open)
+        }
+    }
+}

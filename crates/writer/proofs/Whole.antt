@@ -1,0 +1,57 @@
+-- A message in front of what stands behind it.
+use Prim.Native.Nat.{ℕ, _+_, _≤_, _<_}
+use native.Mathlib.Nat.{zero-add}
+use native.Mathlib.Omega.{arith}
+use mathlib.Core.Path.{_≡_, refl, sym, _∙_, ap}
+use mathlib.Core.List.{List, [], _∷_, _++_, append-assoc}
+use borrow.Author.Tests.{lt-ltb, le-ltb}
+use lib.ListN.{length, set, drop, length-append, length-set}
+use Rattle.protocol.specs.Encode.{encoded, refused}
+use Rattle.protocol.specs.Writing.{limited}
+use Rattle.writer.proofs.Over.{over-over, over-length}
+use Rattle.writer.specs.Slot.{slotsBytes, messageBytes, over}
+use Rattle.writer.specs.declared.slot.Slot.{Slot}
+
+-- at the front
+front : (out bytes : List ℕ) → over out 0 bytes ≡ bytes ++ drop (length bytes) out
+unfolding over
+front out bytes = ap (λ (n : ℕ). bytes ++ drop n out) (zero-add (length bytes))
+
+two : (out : List ℕ) (a b : ℕ) → 2 ≤ length out → set (set out 0 a) 1 b ≡ over out 0 (a ∷ b ∷ [])
+unfolding over
+two [] a b h = absurd (omega arith)
+two (x ∷ []) a b h = absurd (omega arith)
+two (x ∷ y ∷ out) a b h = refl
+
+pub header-length : (out : List ℕ) (a b : ℕ) → length (set (set out 0 a) 1 b) ≡ length out
+header-length out a b = length-set (set out 0 a) 1 b ∙ length-set out 0 a
+
+module _ (slots : List Slot) (opens : List ℕ) (w : ℕ) (is : w ≡ length (slotsBytes slots)) where
+  abbrev whole : List ℕ
+  whole = messageBytes slots opens
+
+  pub size-is : 2 + w + length opens ≡ length whole
+  size-is = omega (arith, length-append (slotsBytes slots) opens)
+
+  pub too-short : (room : ℕ) → room < 2 + w + length opens → limited room (encoded whole) ≡ refused 8 0
+  unfolding limited
+  too-short room h = rw (lt-ltb room (length whole) (omega (arith, size-is)))
+
+  pub long-enough : (room : ℕ) → 2 + w + length opens ≤ room → limited room (encoded whole) ≡ encoded whole
+  unfolding limited
+  long-enough room h = rw (le-ltb room (length whole) (omega (arith, size-is)))
+
+  pub message-put : (out : List ℕ) → 2 + w + length opens ≤ length out
+      → over (over (set (set out 0 (2 + w + length opens)) 1 0) 2 (slotsBytes slots)) (2 + w) opens ≡ whole ++ drop (length whole) out
+  message-put out h =
+      let a : ℕ = 2 + w + length opens in
+      let bs : List ℕ = slotsBytes slots in
+      let head : List ℕ = a ∷ 0 ∷ [] in
+      let first : set (set out 0 a) 1 0 ≡ over out 0 head = two out a 0 (omega arith) in
+      let second : over (over out 0 head) 2 bs ≡ over out 0 (head ++ bs) = over-over out 0 head bs (omega arith) in
+      let place : 2 + w ≡ 0 + length (head ++ bs) = omega (arith, is) in
+      let third : over (over out 0 (head ++ bs)) (0 + length (head ++ bs)) opens ≡ over out 0 (head ++ bs ++ opens) = over-over out 0 (head ++ bs) opens (omega arith) in
+      let counted : a ≡ 2 + length (bs ++ opens) = omega (arith, length-append bs opens) in
+      let same : a ∷ 0 ∷ (bs ++ opens) ≡ whole = ap (λ (n : ℕ). n ∷ 0 ∷ (bs ++ opens)) counted in
+      ap (λ (l : List ℕ). over (over l 2 bs) (2 + w) opens) first ∙ ap (λ (l : List ℕ). over l (2 + w) opens) second ∙ ap (λ (n : ℕ). over (over out 0 (head ++ bs)) n opens) place
+      ∙ third ∙ ap (over out 0) same ∙ front out whole

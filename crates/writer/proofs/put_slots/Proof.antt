@@ -1,0 +1,90 @@
+use Prim.Native.Nat.{ℕ, _-_}
+use mathlib.Core.Path.{_≡_, refl, sym, _∙_, ap}
+use mathlib.Core.List.{List}
+use native.Mathlib.Omega.{arith}
+use borrow.Author.Needs.{needs}
+use lib.ListN.{length, getD}
+use lib.Seq.{take-all}
+use Rattle.writer.proofs.Over.{over-nothing}
+use Rattle.writer.proofs.Walk.{Put, put-here, put-one, put-length}
+use Rattle.writer.specs.Slot.{slotBytes, slotsBytes, over}
+use Rattle.writer.specs.declared.slot.Slot.{Slot}
+use Rattle.writer.specs.declared.slot.Slot.the-variants as Slot'
+use Rattle.writer.proofs.put_slots.Statement.{statement}
+use Rattle.writer.proofs.put_slots.Tie as tie
+
+abbrev Inv-loop : tie.InvT-loop
+Inv-loop out₀ slots at₀ i₀ out at i = Put out₀ slots out at i
+
+abbrev μ-loop : tie.MeasureT-loop
+μ-loop out₀ slots at₀ i₀ out at i = 11 - i
+
+loop-holds : tie.Need-loop-holds Inv-loop μ-loop
+loop-holds c = record { few = omega arith; narrow = omega arith; place = refl; done = sym (over-nothing (c .before .args .out .now) 2); rest = c .before .pre .1 }
+
+mul-put-slot : tie.Need-mul-put-slot Inv-loop μ-loop
+mul-put-slot c = search needs
+
+array-copy-out-put-slot : tie.Need-array-copy-out-put-slot Inv-loop μ-loop
+array-copy-out-put-slot c = search needs
+
+put-slot-requires : tie.Need-put-slot-requires Inv-loop μ-loop
+put-slot-requires c κs =
+    put-here (c .before .before .before .before .before .args .out .now) (c .before .before .before .before .before .args .t2) Slot'.Nothing (c .before .before .before .loop .out) (c .before .before .before .loop .at) (c .before .before .before .loop .i) (c .before .before .before .loop .inv)
+    (c .before .before .loop-test .taken) (c .before .before .before .before .before .pre .0) (c .before .before .before .before .before .pre .2)
+
+mul-width : tie.Need-mul-width Inv-loop μ-loop
+mul-width c = search needs
+
+array-copy-out-width : tie.Need-array-copy-out-width Inv-loop μ-loop
+array-copy-out-width c = search needs
+
+width-requires : tie.Need-width-requires Inv-loop μ-loop
+width-requires c κs = search needs
+
+add-at : tie.Need-add-at Inv-loop μ-loop
+add-at c = record { fits = omega (arith, c .width .ensures .1, c .before .before .before .before .before .before .before .before .loop .inv .narrow, c .before .before .before .before .before .before .before .before .loop .inv .few) }
+
+add-i : tie.Need-add-i Inv-loop μ-loop
+add-i c = record { fits = omega (arith, c .before .before .before .before .before .before .before .loop-test .taken) }
+
+loop-less : tie.Need-loop-less Inv-loop μ-loop
+loop-less c = omega (arith, c .before .before .before .before .before .before .before .loop-test .taken)
+
+loop-again : tie.Need-loop-again Inv-loop μ-loop
+loop-again c =
+    let slots : List Slot = c .before .before .before .before .before .before .before .before .before .before .args .t2 in
+    let i : ℕ = c .before .before .before .before .before .before .before .before .loop .i in
+    let size : c .width .result ≡ length (slotBytes (getD slots i Slot'.Nothing)) = c .width .ensures .0 in
+    rw size
+    (put-one (c .before .before .before .before .before .before .before .before .before .before .args .out .now) slots Slot'.Nothing (c .before .before .before .before .before .before .before .before .loop .out) (c .before .before .before .before .before .before .before .before .loop .at) i (c .before .before .before .before .put-slot .last .0) (c .before .before .before .before .before .before .before .before .loop .inv)
+    (c .before .before .before .before .before .before .before .loop-test .taken) (c .before .before .before .before .before .before .before .before .before .before .pre .0) (omega (arith, size, c .width .ensures .1)) (c .before .before .before .before .before .before .before .before .before .before .pre .2) (c .before .before .before .before .put-slot .ensures))
+
+same-length : tie.Need-same-length Inv-loop μ-loop
+same-length c = put-length (c .before .before .before .args .out .now) (c .before .before .before .args .t2) (c .before .loop .out) (c .before .loop .at) (c .before .loop .i) (c .before .loop .inv) (c .before .before .before .pre .2)
+
+returns : tie.Need-returns Inv-loop μ-loop
+returns c =
+    let slots : List Slot = c .before .before .before .args .t2 in
+    let i : ℕ = c .before .loop .i in
+    c .before .loop .inv .done ∙ ap (λ (l : List Slot). over (c .before .before .before .args .out .now) 2 (slotsBytes l)) (take-all i slots (omega (arith, c .before .before .before .pre .0, c .loop-test .left)))
+
+pub put-slots-spec : {M : Type 1} → statement M
+put-slots-spec =
+    tie.close
+    (tie.spec
+    Inv-loop
+    μ-loop
+    loop-holds
+    mul-put-slot
+    array-copy-out-put-slot
+    put-slot-requires
+    mul-width
+    array-copy-out-width
+    width-requires
+    add-at
+    add-i
+    loop-less
+    loop-again
+    same-length
+    returns)
