@@ -1,30 +1,38 @@
 //! What one function of the product accepts, the other turns back. The second program plays no part in the answers.
 
+use std::collections::BTreeMap;
+
 use differential::{near_call, plausible, read, write, Call, Random, CELLS};
 use yardstick::Form;
 
-/// How many accepted messages make the trip.
-const MESSAGES: usize = 1_000_000;
+/// How many messages are tried. Those that are accepted make the trip.
+const TRIED: usize = 1_500_000;
 
-/// The least number of them that each form has to have.
-const EACH: u64 = 2000;
+/// The least number of messages that have to make the trip, in all and of each form.
+const TRIPS: u64 = 1_000_000;
+const EACH: u64 = 5000;
+
+/// An answer of the writer below this one is a length, the others are refusals.
+const REFUSED: usize = 128;
 
 /// How many messages of each form made the trip.
+#[derive(Default)]
 struct Trips {
-    forms: [u64; Form::COUNT + 1],
+    forms: BTreeMap<u64, u64>,
 }
 
 impl Trips {
-    fn new() -> Trips {
-        Trips {
-            forms: [0; Form::COUNT + 1],
-        }
+    fn count(&mut self, form: u64) {
+        *self.forms.entry(form).or_default() += 1;
     }
 
-    fn expect_forms(&self, name: &str) {
-        println!("{name}: by form {:?}", &self.forms[1..]);
-        for (form, &seen) in self.forms.iter().enumerate().skip(1) {
-            assert!(seen >= EACH, "form {form} made the trip {seen} times, not {EACH}");
+    fn expect_often(&self, name: &str) {
+        let all: u64 = self.forms.values().sum();
+        println!("{name}: {all} of {TRIED}, by form {:?}", self.forms);
+        assert!(all >= TRIPS, "{all} made the trip, not {TRIPS}");
+        for form in Form::ALL {
+            let seen = self.forms.get(&form.number().into()).copied().unwrap_or(0);
+            assert!(seen >= EACH, "{form:?} made the trip {seen} times, not {EACH}");
         }
     }
 }
@@ -40,17 +48,15 @@ fn complement(message: &[u8]) -> Vec<u8> {
 #[test]
 fn read_then_write() {
     let mut random = Random::new(6);
-    let mut trips = Trips::new();
+    let mut trips = Trips::default();
     let mut message = Vec::new();
-    let mut accepted = 0;
-    while accepted < MESSAGES {
+    for _ in 0..TRIED {
         let way = plausible(&mut random, &mut message);
         let cells = read(way, &message);
         if cells[0] != 0 {
             continue;
         }
-        accepted += 1;
-        trips.forms[cells[2] as usize] += 1;
+        trips.count(cells[2]);
         let open = &message[cells[3] as usize..][..cells[4] as usize];
         let mut output = complement(&message);
         let length = write(way, &cells, open, &mut output);
@@ -58,7 +64,7 @@ fn read_then_write() {
         assert_eq!(output[..message.len()], message, "bytes of {message:02X?}");
         assert_eq!(output[message.len()..], [0xA5, 0x5A, 0xC3], "bytes past {message:02X?}");
     }
-    trips.expect_forms("read, then written");
+    trips.expect_often("read, then written");
 }
 
 /// The values as reading gives them: entries of a 43 past the count are 0.
@@ -75,17 +81,15 @@ fn settled(call: &Call) -> Vec<u64> {
 #[test]
 fn write_then_read() {
     let mut random = Random::new(7);
-    let mut trips = Trips::new();
-    let mut accepted = 0;
-    while accepted < MESSAGES {
+    let mut trips = Trips::default();
+    for _ in 0..TRIED {
         let call = near_call(&mut random);
         let mut output = vec![0xA5; call.output];
         let length = write(call.way, &call.cells(), &call.open, &mut output) as usize;
-        if length >= 128 {
+        if length >= REFUSED {
             continue;
         }
-        accepted += 1;
-        trips.forms[usize::from(call.form.number())] += 1;
+        trips.count(call.form.number().into());
         let message = &output[..length];
         let values = settled(&call);
         let mut cells = [0; CELLS];
@@ -103,5 +107,5 @@ fn write_then_read() {
             "{call:?} as {message:02X?}"
         );
     }
-    trips.expect_forms("written, then read");
+    trips.expect_often("written, then read");
 }
