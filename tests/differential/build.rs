@@ -1,5 +1,5 @@
 //! Links the product's static library. Its folder is `target/staticlib` at the repository root, or the one that
-//! CASTANETASH_LIB names, absolute or seen from the root.
+//! CASTANETASH_LIB names, absolute or seen from the root. The tests of callers get it as CASTANETASH_LIB_FOLDER.
 
 use std::env;
 use std::path::Path;
@@ -20,6 +20,7 @@ fn main() {
         );
     }
     println!("cargo:rustc-link-search=native={}", folder.display());
+    println!("cargo:rustc-env=CASTANETASH_LIB_FOLDER={}", folder.display());
     println!("cargo:rustc-link-lib=static=capi");
     println!("cargo:rerun-if-changed={}", archive.display());
     println!("cargo:rerun-if-env-changed=CASTANETASH_LIB");

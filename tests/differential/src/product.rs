@@ -11,6 +11,16 @@ mod interface {
             cells: *mut u64,
             cells_len: usize,
         ) -> usize;
+
+        pub fn castanetash_write(
+            cells: *const u64,
+            cells_len: usize,
+            way: u8,
+            open: *const u8,
+            open_len: usize,
+            output: *mut u8,
+            output_len: usize,
+        ) -> u64;
     }
 }
 
@@ -25,11 +35,37 @@ pub fn castanetash_read(message: &[u8], way: u8, cells: &mut [u64]) -> usize {
 /// The product's answer to one message. Every cell has to be filled: each holds something else beforehand.
 pub fn read(way: Way, message: &[u8]) -> Cells {
     let mut cells = [u64::MAX; CELLS];
-    let way = match way {
-        Way::Down => 0,
-        Way::Up => 1,
-    };
-    let filled = castanetash_read(message, way, &mut cells);
+    let filled = castanetash_read(message, way_byte(way), &mut cells);
     assert_eq!(filled, CELLS, "the product fills all cells");
     cells
+}
+
+/// The product's writing of one message, as its C interface gives it. Way 0 is down, any other up.
+#[allow(unsafe_code)]
+pub fn castanetash_write(cells: &[u64], way: u8, open: &[u8], output: &mut [u8]) -> u64 {
+    // SAFETY: each pointer comes from a slice of the length passed with it; the callee keeps none of the pointers, reads
+    // only the cells and the open bytes and writes only the output.
+    unsafe {
+        interface::castanetash_write(
+            cells.as_ptr(),
+            cells.len(),
+            way,
+            open.as_ptr(),
+            open.len(),
+            output.as_mut_ptr(),
+            output.len(),
+        )
+    }
+}
+
+/// The product's answer to one message to be written.
+pub fn write(way: Way, cells: &Cells, open: &[u8], output: &mut [u8]) -> u64 {
+    castanetash_write(cells, way_byte(way), open, output)
+}
+
+fn way_byte(way: Way) -> u8 {
+    match way {
+        Way::Down => 0,
+        Way::Up => 1,
+    }
 }

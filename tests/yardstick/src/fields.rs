@@ -3,6 +3,7 @@ use std::ops::RangeInclusive;
 use crate::decoded::Decoded;
 use crate::form::Form;
 use crate::header;
+use crate::lists;
 use crate::refusal::Refusal;
 use crate::values::Values;
 
@@ -77,7 +78,7 @@ impl<'a> Fields<'a> {
 
     /// Takes a mode.
     pub(crate) fn mode(&mut self) -> Result<u8, Refusal> {
-        self.byte_of(|mode| mode <= 15)
+        self.byte_of(lists::is_mode)
     }
 
     /// Takes two bytes, little-endian.

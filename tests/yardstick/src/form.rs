@@ -74,6 +74,43 @@ impl Form {
     /// How many forms there are; their numbers run from 1 to this one.
     pub const COUNT: usize = Form::VirtualConnect as usize;
 
+    /// Every form, in the order of their numbers.
+    pub const ALL: [Form; Form::COUNT] = [
+        Form::PropertyCommand,
+        Form::PropertyText,
+        Form::PropertyByte,
+        Form::PropertyRssi,
+        Form::PropertyVersion,
+        Form::PropertyProtocol,
+        Form::PropertyAddress,
+        Form::HubAction,
+        Form::AlertCommand,
+        Form::AlertUpdate,
+        Form::Detached,
+        Form::Attached,
+        Form::AttachedVirtual,
+        Form::GenericError,
+        Form::GoIntoBootMode,
+        Form::LockMemory,
+        Form::LockStatusRequest,
+        Form::LockStatus,
+        Form::PortInformationRequest,
+        Form::ModeInformationRequest,
+        Form::InputFormatSetup,
+        Form::PortModes,
+        Form::PortCombinations,
+        Form::ModeText,
+        Form::ModeRange,
+        Form::ModeMapping,
+        Form::ModeBias,
+        Form::ModeCapabilities,
+        Form::ValueFormat,
+        Form::PortValue,
+        Form::InputFormat,
+        Form::VirtualDisconnect,
+        Form::VirtualConnect,
+    ];
+
     /// The form's number.
     pub const fn number(self) -> u8 {
         self as u8

@@ -1,16 +1,14 @@
 use crate::decoded::Decoded;
 use crate::fields::Fields;
 use crate::form::Form;
+use crate::lists;
 use crate::refusal::Refusal;
 use crate::way::Way;
 
 /// Hub Actions, 02.
 pub(crate) fn action(way: Way, mut fields: Fields) -> Result<Decoded, Refusal> {
     fields.selectors_up_to(3)?;
-    fields.byte_of(|action| match way {
-        Way::Down => matches!(action, 0x01..=0x06 | 0x2F),
-        Way::Up => matches!(action, 0x30..=0x32),
-    })?;
+    fields.byte_of(|action| lists::is_action(way, action))?;
     fields.size_is(4)?;
     fields.accept(Form::HubAction)
 }
@@ -18,8 +16,8 @@ pub(crate) fn action(way: Way, mut fields: Fields) -> Result<Decoded, Refusal> {
 /// Hub Alerts, 03, down: an operation on an alert.
 pub(crate) fn alert_command(mut fields: Fields) -> Result<Decoded, Refusal> {
     fields.selectors_up_to(4)?;
-    alert(&mut fields)?;
-    fields.byte_of(|operation| matches!(operation, 1..=3))?;
+    fields.byte_of(lists::is_alert)?;
+    fields.byte_of(|operation| lists::is_alert_operation(Way::Down, operation))?;
     fields.size_is(5)?;
     fields.accept(Form::AlertCommand)
 }
@@ -27,15 +25,11 @@ pub(crate) fn alert_command(mut fields: Fields) -> Result<Decoded, Refusal> {
 /// Hub Alerts, 03, up: the status of an alert.
 pub(crate) fn alert_update(mut fields: Fields) -> Result<Decoded, Refusal> {
     fields.selectors_up_to(4)?;
-    alert(&mut fields)?;
-    fields.byte_of(|operation| operation == 4)?;
+    fields.byte_of(lists::is_alert)?;
+    fields.byte_of(|operation| lists::is_alert_operation(Way::Up, operation))?;
     fields.size_is(6)?;
-    fields.byte_of(|status| matches!(status, 0x00 | 0xFF))?;
+    fields.byte_of(lists::is_alert_status)?;
     fields.accept(Form::AlertUpdate)
-}
-
-fn alert(fields: &mut Fields) -> Result<u8, Refusal> {
-    fields.byte_of(|alert| matches!(alert, 1..=4))
 }
 
 /// Hub Attached I/O, 04.
@@ -69,6 +63,6 @@ pub(crate) fn attached_io(mut fields: Fields) -> Result<Decoded, Refusal> {
 pub(crate) fn generic_error(mut fields: Fields) -> Result<Decoded, Refusal> {
     fields.size_is(5)?;
     fields.byte(); // command type
-    fields.byte_of(|error| matches!(error, 1..=8))?;
+    fields.byte_of(lists::is_error)?;
     fields.accept(Form::GenericError)
 }

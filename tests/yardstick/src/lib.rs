@@ -1,10 +1,11 @@
 //! A second program by the rules of the product, written from the documents alone.
 //!
-//! [`decode`] reads one message of LEGO Wireless Protocol 3.0. The tests in `differential` compare its answers with
-//! those of the product.
+//! [`decode`] reads one message of LEGO Wireless Protocol 3.0, and [`encode`] writes one. The tests in `differential`
+//! compare their answers with those of the product.
 
 mod decode;
 mod decoded;
+mod encode;
 pub mod examples;
 mod fields;
 mod firmware;
@@ -12,6 +13,9 @@ mod form;
 mod header;
 mod hub;
 mod hub_property;
+mod kind;
+mod lists;
+mod message;
 mod mode_information;
 mod port;
 mod refusal;
@@ -20,6 +24,9 @@ mod way;
 
 pub use decode::decode;
 pub use decoded::Decoded;
+pub use encode::{encode, encode_to};
 pub use form::Form;
+pub use kind::Kind;
+pub use message::Message;
 pub use refusal::Refusal;
 pub use way::Way;

@@ -1,30 +1,25 @@
 use crate::decoded::Decoded;
 use crate::fields::Fields;
 use crate::form::Form;
+use crate::lists;
 use crate::refusal::Refusal;
-
-/// Whether an information type is listed. Type 6 is used within the hub only.
-fn is_information_type(byte: u8) -> bool {
-    matches!(byte, 0..=5 | 7 | 8 | 0x80)
-}
 
 /// Port Mode Information Request, 22.
 pub(crate) fn request(mut fields: Fields) -> Result<Decoded, Refusal> {
     fields.size_is(6)?;
     fields.port();
     fields.mode()?;
-    fields.byte_of(is_information_type)?;
+    fields.byte_of(lists::is_mode_information_type)?;
     fields.accept(Form::ModeInformationRequest)
 }
 
 /// Port Mode Information, 44. The information type is a selector, so it is judged before the mode to its left.
 pub(crate) fn information(mut fields: Fields) -> Result<Decoded, Refusal> {
     fields.selectors_up_to(5)?;
-    let information_type = fields.listed_at(5, is_information_type)?;
+    let information_type = fields.listed_at(5, lists::is_mode_information_type)?;
     match information_type {
-        0 => fields.size_in(7..=17)?,
+        0 | 4 => text_size(&fields, information_type)?,
         1..=3 => fields.size_is(14)?,
-        4 => fields.size_in(7..=11)?,
         5 => fields.size_is(8)?,
         7 => fields.size_is(7)?,
         8 => fields.size_is(12)?,
@@ -45,7 +40,7 @@ pub(crate) fn information(mut fields: Fields) -> Result<Decoded, Refusal> {
             fields.accept(Form::ModeMapping)
         }
         7 => {
-            fields.byte_of(|bias| bias <= 100)?;
+            fields.byte_of(lists::is_bias)?;
             fields.accept(Form::ModeBias)
         }
         8 => {
@@ -53,11 +48,16 @@ pub(crate) fn information(mut fields: Fields) -> Result<Decoded, Refusal> {
             fields.accept(Form::ModeCapabilities)
         }
         _ => {
-            fields.byte_of(|datasets| matches!(datasets, 1..=16))?;
-            fields.byte_of(|kind| kind <= 3)?;
+            fields.byte_of(lists::is_datasets)?;
+            fields.byte_of(lists::is_dataset_kind)?;
             fields.byte(); // figures
             fields.byte(); // decimals
             fields.accept(Form::ValueFormat)
         }
     }
+}
+
+fn text_size(fields: &Fields, information_type: u8) -> Result<(), Refusal> {
+    let lengths = lists::mode_text_lengths(information_type);
+    fields.size_in(6 + lengths.start()..=6 + lengths.end())
 }

@@ -1,13 +1,14 @@
 use crate::decoded::Decoded;
 use crate::fields::Fields;
 use crate::form::Form;
+use crate::lists;
 use crate::refusal::Refusal;
 
 /// Port Information Request, 21.
 pub(crate) fn information_request(mut fields: Fields) -> Result<Decoded, Refusal> {
     fields.size_is(5)?;
     fields.port();
-    fields.byte_of(|information_type| information_type <= 2)?;
+    fields.byte_of(lists::is_port_information_type)?;
     fields.accept(Form::PortInformationRequest)
 }
 
@@ -25,7 +26,7 @@ pub(crate) fn information(mut fields: Fields) -> Result<Decoded, Refusal> {
 
 fn modes(mut fields: Fields) -> Result<Decoded, Refusal> {
     fields.size_is(11)?;
-    fields.byte_of(|capabilities| capabilities <= 15)?;
+    fields.byte_of(lists::is_port_capabilities)?;
     fields.byte(); // mode count
     fields.two_bytes(); // input modes
     fields.two_bytes(); // output modes
@@ -77,7 +78,7 @@ fn setup(mut fields: Fields, form: Form) -> Result<Decoded, Refusal> {
     fields.port();
     fields.mode()?;
     fields.four_bytes(); // delta
-    fields.byte_of(|notify| notify <= 1)?;
+    fields.byte_of(lists::is_notify)?;
     fields.accept(form)
 }
 

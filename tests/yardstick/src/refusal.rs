@@ -20,6 +20,8 @@ impl Refusal {
     pub const MESSAGE_TYPE: Refusal = Refusal::new(5, 2);
     /// The message is too short for its selectors, or has no size for them.
     pub const SIZE: Refusal = Refusal::new(6, 0);
+    /// The output is shorter than the message.
+    pub const OUTPUT: Refusal = Refusal::new(8, 0);
 
     /// The field that starts at `place` is outside its list.
     pub const fn field(place: usize) -> Refusal {

@@ -3,6 +3,7 @@
 mod bench;
 mod forms;
 mod order;
+mod writing;
 
 use std::ops::Range;
 
@@ -15,6 +16,7 @@ use crate::way::Way;
 pub use bench::BENCH;
 pub use forms::FORMS;
 pub use order::ORDER;
+pub use writing::{Unwritten, WRITING};
 
 /// A message with its answer.
 pub struct Example {

@@ -1,0 +1,56 @@
+use yardstick::examples::FORMS;
+use yardstick::{decode, Form, Way};
+
+use crate::cells::{Cells, CELLS};
+
+/// A length of output that every message fits in with some bytes to spare.
+pub const OUTPUT: usize = 130;
+
+/// What a writer is called with.
+#[derive(Clone, Debug)]
+pub struct Call {
+    /// The message's way.
+    pub way: Way,
+    /// The message's form.
+    pub form: Form,
+    /// The message's values, of which some may not be of their kind.
+    pub values: Vec<u64>,
+    /// The open bytes.
+    pub open: Vec<u8>,
+    /// The length of the output.
+    pub output: usize,
+}
+
+impl Call {
+    /// The call that writes a message, if it is an accepted one.
+    pub fn writing(way: Way, message: &[u8]) -> Option<Call> {
+        let decoded = decode(way, message).ok()?;
+        Some(Call {
+            way,
+            form: decoded.form,
+            values: decoded.values().to_vec(),
+            open: message[decoded.open.clone()].to_vec(),
+            output: OUTPUT,
+        })
+    }
+
+    /// The cells of the message. Those that the writer has no use for hold any numbers.
+    pub fn cells(&self) -> Cells {
+        let mut cells = [0xA5A5_0000_0000_5A00; CELLS];
+        cells[2] = self.form.number().into();
+        cells[6..][..self.values.len()].copy_from_slice(&self.values);
+        cells
+    }
+}
+
+/// Calls that write accepted messages: the examples of every form, and the longest texts and values.
+pub fn valid_calls() -> Vec<Call> {
+    let example = |message: &[u8], way| Call::writing(way, message).expect("the examples of forms are accepted");
+    let mut calls: Vec<Call> = FORMS.iter().map(|it| example(&it.bytes(), it.way)).collect();
+    for start in [[0x7F, 0, 0x01, 8, 6], [0x7F, 0, 0x01, 9, 6], [0x7F, 0, 0x45, 0, 0]] {
+        let mut message = start.to_vec();
+        message.extend(0x83..=0xFC);
+        calls.push(example(&message, Way::Up));
+    }
+    calls
+}

@@ -1,0 +1,111 @@
+//! What one function of the product accepts, the other turns back. The second program plays no part in the answers.
+
+use std::collections::BTreeMap;
+
+use differential::{near_call, plausible, read, write, Call, Random, CELLS};
+use yardstick::Form;
+
+/// How many messages are tried. Those that are accepted make the trip.
+const TRIED: usize = 1_500_000;
+
+/// The least number of messages that have to make the trip, in all and of each form.
+const TRIPS: u64 = 1_000_000;
+const EACH: u64 = 5000;
+
+/// An answer of the writer below this one is a length, the others are refusals.
+const REFUSED: usize = 128;
+
+/// How many messages of each form made the trip.
+#[derive(Default)]
+struct Trips {
+    forms: BTreeMap<u64, u64>,
+}
+
+impl Trips {
+    fn count(&mut self, form: u64) {
+        *self.forms.entry(form).or_default() += 1;
+    }
+
+    fn expect_often(&self, name: &str) {
+        let all: u64 = self.forms.values().sum();
+        println!("{name}: {all} of {TRIED}, by form {:?}", self.forms);
+        assert!(all >= TRIPS, "{all} made the trip, not {TRIPS}");
+        for form in Form::ALL {
+            let seen = self.forms.get(&form.number().into()).copied().unwrap_or(0);
+            assert!(seen >= EACH, "{form:?} made the trip {seen} times, not {EACH}");
+        }
+    }
+}
+
+/// What stands in the output beforehand, other than the message at every place.
+fn complement(message: &[u8]) -> Vec<u8> {
+    let mut output: Vec<u8> = message.iter().map(|byte| !byte).collect();
+    output.extend([0xA5, 0x5A, 0xC3]);
+    output
+}
+
+/// Bytes that reading accepts are written from the cells of that reading.
+#[test]
+fn read_then_write() {
+    let mut random = Random::new(6);
+    let mut trips = Trips::default();
+    let mut message = Vec::new();
+    for _ in 0..TRIED {
+        let way = plausible(&mut random, &mut message);
+        let cells = read(way, &message);
+        if cells[0] != 0 {
+            continue;
+        }
+        trips.count(cells[2]);
+        let open = &message[cells[3] as usize..][..cells[4] as usize];
+        let mut output = complement(&message);
+        let length = write(way, &cells, open, &mut output);
+        assert_eq!(length, message.len() as u64, "length of {message:02X?}");
+        assert_eq!(output[..message.len()], message, "bytes of {message:02X?}");
+        assert_eq!(output[message.len()..], [0xA5, 0x5A, 0xC3], "bytes past {message:02X?}");
+    }
+    trips.expect_often("read, then written");
+}
+
+/// The values as reading gives them: entries of a 43 past the count are 0.
+fn settled(call: &Call) -> Vec<u64> {
+    let mut values = call.values.clone();
+    if call.form == Form::PortCombinations {
+        let count = values[2] as usize;
+        values[3..][count..].fill(0);
+    }
+    values
+}
+
+/// Fields that writing accepts are read from the bytes so written.
+#[test]
+fn write_then_read() {
+    let mut random = Random::new(7);
+    let mut trips = Trips::default();
+    for _ in 0..TRIED {
+        let call = near_call(&mut random);
+        let mut output = vec![0xA5; call.output];
+        let length = write(call.way, &call.cells(), &call.open, &mut output) as usize;
+        if length >= REFUSED {
+            continue;
+        }
+        trips.count(call.form.number().into());
+        let message = &output[..length];
+        let values = settled(&call);
+        let mut cells = [0; CELLS];
+        cells[2] = call.form.number().into();
+        if !call.open.is_empty() {
+            cells[3] = (length - call.open.len()) as u64;
+            cells[4] = call.open.len() as u64;
+        }
+        cells[5] = values.len() as u64;
+        cells[6..][..values.len()].copy_from_slice(&values);
+        assert_eq!(read(call.way, message), cells, "{call:?} as {message:02X?}");
+        assert_eq!(
+            message[length - call.open.len()..],
+            call.open,
+            "{call:?} as {message:02X?}"
+        );
+    }
+    trips.expect_often("written, then read");
+}

@@ -1,0 +1,34 @@
+//! The bytes of each form, with the fields judged left to right.
+
+mod firmware;
+mod hub;
+mod hub_property;
+mod mode_information;
+mod port;
+
+use super::bytes::Bytes;
+use super::message_type::message_type;
+use crate::message::Message;
+use crate::refusal::Refusal;
+
+/// Lays out the header, the fields and the open bytes, which are last in every form that has them.
+pub(super) fn lay_out(message: Message, open: &[u8]) -> Result<Vec<u8>, Refusal> {
+    let form = message.form();
+    let message_type = message_type(form);
+    let values = message.values();
+    let mut bytes = Bytes::of_type(message_type);
+    match message_type {
+        0x01 => hub_property::property(&mut bytes, form, values)?,
+        0x02..=0x05 => hub::lay_out(&mut bytes, form, values)?,
+        0x10..=0x13 => firmware::lay_out(&mut bytes, form, values),
+        0x44 => mode_information::information(&mut bytes, form, values)?,
+        _ => port::lay_out(&mut bytes, form, values)?,
+    }
+    bytes.run(open);
+    Ok(bytes.finish())
+}
+
+/// The values of a message are those of its form.
+fn other_values(values: &[u64]) -> ! {
+    unreachable!("the form has other values than {values:?}")
+}

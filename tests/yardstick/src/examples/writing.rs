@@ -1,0 +1,146 @@
+use crate::form::Form;
+use crate::refusal::Refusal;
+use crate::way::Way::{self, Down, Up};
+
+/// A message to be written, with its refusal.
+pub struct Unwritten {
+    /// The message's way.
+    pub way: Way,
+    /// The message's form.
+    pub form: Form,
+    /// The message's values.
+    pub values: &'static [u64],
+    /// The open bytes lent with it.
+    pub open: &'static [u8],
+    /// The length of the output.
+    pub output: usize,
+    /// The refusal that writing the message has to give.
+    pub refusal: Refusal,
+}
+
+const fn refused(way: Way, form: Form, values: &'static [u64], number: u8, place: usize) -> Unwritten {
+    refused_open(way, form, values, b"", number, place)
+}
+
+const fn refused_open(
+    way: Way,
+    form: Form,
+    values: &'static [u64],
+    open: &'static [u8],
+    number: u8,
+    place: usize,
+) -> Unwritten {
+    // No output, so that every other refusal has to come before 8.
+    Unwritten {
+        way,
+        form,
+        values,
+        open,
+        output: 0,
+        refusal: Refusal { number, place },
+    }
+}
+
+const fn short(way: Way, form: Form, values: &'static [u64], open: &'static [u8], output: usize) -> Unwritten {
+    Unwritten {
+        way,
+        form,
+        values,
+        open,
+        output,
+        refusal: Refusal::OUTPUT,
+    }
+}
+
+/// Messages that writing refuses: the order of the refusals, and the edges of sizes and lists. What is accepted is
+/// in the examples of the forms.
+#[rustfmt::skip]
+pub const WRITING: &[Unwritten] = &[
+    // The way comes first, before fields, open bytes and the output.
+    refused(Down, Form::Detached, &[0, 0], 5, 2),
+    refused(Up, Form::LockStatusRequest, &[], 5, 2),
+    refused_open(Up, Form::InputFormatSetup, &[0, 16, 1, 2], b"x", 5, 2),
+    refused_open(Down, Form::ModeText, &[0, 16, 6], b"", 5, 2),
+    // Selectors come before open bytes and before other fields, and are judged left to right.
+    refused_open(Down, Form::PropertyCommand, &[0, 0], b"x", 7, 3),
+    refused_open(Down, Form::PropertyCommand, &[16, 5], b"x", 7, 3),
+    refused_open(Up, Form::PropertyByte, &[2, 7, 2], b"x", 7, 4),
+    refused_open(Up, Form::HubAction, &[0x2F], b"x", 7, 3),
+    refused_open(Down, Form::HubAction, &[0x30], b"x", 7, 3),
+    refused_open(Up, Form::AlertUpdate, &[5, 4, 1], b"x", 7, 3),
+    refused_open(Up, Form::ModeText, &[0, 16, 6], b"", 7, 5),
+    // An operation that exists and doesn't go this way, or isn't permitted.
+    refused(Up, Form::PropertyCommand, &[1, 5], 7, 4),
+    refused_open(Down, Form::PropertyText, &[1, 6], b"x", 7, 4),
+    refused(Down, Form::PropertyByte, &[2, 1, 1], 7, 4),
+    refused(Down, Form::PropertyCommand, &[3, 2], 7, 4),
+    refused(Up, Form::AlertCommand, &[1, 1], 7, 4),
+    refused(Down, Form::AlertUpdate, &[1, 4, 0], 7, 4),
+    // Selectors that are allowed and are another form's.
+    refused(Up, Form::PropertyCommand, &[1, 6], 7, 4),
+    refused_open(Up, Form::PropertyText, &[2, 6], b"x", 7, 4),
+    refused_open(Down, Form::PropertyText, &[1, 5], b"x", 7, 4),
+    refused(Up, Form::PropertyByte, &[3, 6, 0], 7, 4),
+    refused(Down, Form::PropertyRssi, &[5, 5, 0], 7, 4),
+    refused(Up, Form::PropertyVersion, &[13, 6, 0], 7, 4),
+    refused(Up, Form::PropertyAddress, &[3, 6, 0], 7, 4),
+    refused(Up, Form::AlertCommand, &[1, 4], 7, 4),
+    refused_open(Up, Form::ModeText, &[0, 0, 1], b"x", 7, 5),
+    refused(Up, Form::ModeRange, &[0, 0, 4, 0, 0], 7, 5),
+    // Open bytes that a form doesn't have.
+    refused_open(Down, Form::LockStatusRequest, &[], b"x", 6, 0),
+    refused_open(Down, Form::GoIntoBootMode, &[], b"LPF2-Boot", 6, 0),
+    refused_open(Down, Form::PropertyCommand, &[1, 2], b"x", 6, 0),
+    refused_open(Up, Form::PortCombinations, &[0, 2, 1, 0, 0, 0, 0, 0, 0, 0, 0], b"xx", 6, 0),
+    refused_open(Down, Form::InputFormatSetup, &[0, 16, 1, 2], b"x", 6, 0),
+    // Too few open bytes, and too many.
+    refused_open(Down, Form::PropertyText, &[1, 1], b"", 6, 0),
+    refused_open(Down, Form::PropertyText, &[1, 1], &[b'x'; 15], 6, 0),
+    refused_open(Up, Form::PropertyText, &[8, 6], b"", 6, 0),
+    refused_open(Up, Form::PropertyText, &[9, 6], &[b'x'; 123], 6, 0),
+    refused_open(Up, Form::ModeText, &[0, 16, 0], b"", 6, 0),
+    refused_open(Up, Form::ModeText, &[0, 16, 0], &[b'x'; 12], 6, 0),
+    refused_open(Up, Form::ModeText, &[0, 16, 4], &[b'x'; 6], 6, 0),
+    refused_open(Up, Form::PortValue, &[0], b"", 6, 0),
+    refused_open(Up, Form::PortValue, &[0], &[b'x'; 124], 6, 0),
+    refused_open(Up, Form::PortValue, &[0], &[b'x'; 257], 6, 0),
+    // The count of a 43.
+    refused(Up, Form::PortCombinations, &[0, 2, 0, 1, 0, 0, 0, 0, 0, 0, 0], 6, 0),
+    refused(Up, Form::PortCombinations, &[0, 2, 9, 1, 0, 0, 0, 0, 0, 0, 0], 6, 0),
+    refused(Up, Form::PortCombinations, &[0, 2, 255, 1, 0, 0, 0, 0, 0, 0, 0], 6, 0),
+    // Fields, left to right.
+    refused(Up, Form::PropertyByte, &[2, 6, 2], 7, 5),
+    refused(Up, Form::PropertyByte, &[6, 6, 101], 7, 5),
+    refused(Up, Form::PropertyByte, &[7, 6, 255], 7, 5),
+    refused(Down, Form::PropertyByte, &[15, 1, 9], 7, 5),
+    refused(Up, Form::PropertyAddress, &[13, 6, 1 << 48], 7, 5),
+    refused(Up, Form::PropertyAddress, &[14, 6, u64::MAX], 7, 5),
+    refused(Up, Form::AlertUpdate, &[1, 4, 1], 7, 5),
+    refused(Up, Form::GenericError, &[0x41, 0], 7, 4),
+    refused(Up, Form::GenericError, &[0x41, 9], 7, 4),
+    refused(Down, Form::PortInformationRequest, &[0, 3], 7, 4),
+    refused(Down, Form::ModeInformationRequest, &[0, 16, 6], 7, 4),
+    refused(Down, Form::ModeInformationRequest, &[0, 15, 6], 7, 5),
+    refused(Down, Form::InputFormatSetup, &[0, 16, 1, 2], 7, 4),
+    refused(Down, Form::InputFormatSetup, &[0, 15, 1, 2], 7, 9),
+    refused(Up, Form::InputFormat, &[0, 16, 1, 2], 7, 4),
+    refused(Up, Form::InputFormat, &[0, 15, 1, 2], 7, 9),
+    refused(Up, Form::PortModes, &[0, 1, 16, 0, 0, 0], 7, 5),
+    refused_open(Up, Form::ModeText, &[0, 16, 0], b"x", 7, 4),
+    refused(Up, Form::ModeRange, &[0, 16, 1, 0x7F80_0000, 0], 7, 4),
+    refused(Up, Form::ModeRange, &[0, 0, 2, 0xFF80_0000, 0x7FC0_0000], 7, 6),
+    refused(Up, Form::ModeRange, &[0, 0, 3, 0xFF7F_FFFF, 0x7F80_0001], 7, 10),
+    refused(Up, Form::ModeMapping, &[0, 16, 5, 0], 7, 4),
+    refused(Up, Form::ModeBias, &[0, 0, 7, 101], 7, 6),
+    refused(Up, Form::ModeCapabilities, &[0, 0, 8, 1 << 48], 7, 6),
+    refused(Up, Form::ValueFormat, &[0, 0, 0x80, 17, 4, 0, 0], 7, 6),
+    refused(Up, Form::ValueFormat, &[0, 0, 0x80, 0, 4, 0, 0], 7, 6),
+    refused(Up, Form::ValueFormat, &[0, 0, 0x80, 16, 4, 0, 0], 7, 7),
+    // The output.
+    short(Down, Form::LockStatusRequest, &[], b"", 2),
+    short(Down, Form::GoIntoBootMode, &[], b"", 11),
+    short(Down, Form::InputFormatSetup, &[0, 15, 1, 1], b"", 9),
+    short(Up, Form::PortCombinations, &[0, 2, 8, 1, 2, 3, 4, 5, 6, 7, 8], b"", 20),
+    short(Up, Form::ModeText, &[0, 15, 4], b"DEG", 8),
+    short(Up, Form::PortValue, &[0], &[b'x'; 123], 126),
+];
