@@ -1,16 +1,24 @@
 // The product for callers in C and Rust: functions over numbers and slices.
+mod given;
 mod message;
 
+use crate::given::Given;
+use crate::given::find;
 use crate::message::message_cells;
 use codec::open_part;
 use codec::read;
 use protocol::Reading;
 use protocol::Way;
+use protocol::Written;
+use writer::write;
 ghost use mathlib.Core.Path.{_≡_};
 ghost use Prim.Native.Nat.{_≤_};
 ghost use lib.ListN.{drop, length};
 ghost use mathlib.Core.List.{_++_};
 ghost use Rattle.protocol.specs.Answer.{answerOf};
+ghost use Rattle.protocol.specs.Encode.{Encoded};
+ghost use Rattle.protocol.specs.Writing.{lentAfter, writtenOf};
+ghost use Rattle.capi.specs.Given.{answerNumber, givenOf, writtenFrom};
 ghost use Rattle.capi.specs.Cells.{cellsAfter, cellsOf, filled, openStart, wayOf};
 
 fn way_of(way: u8) -> Way
@@ -75,4 +83,27 @@ pub extern "C" fn castanetash_read(message: &[u8], way: u8, cells: &mut [u64]) -
     let open = open_part(message, w).len();
     put(cells, cells_of(reading, message.len() as u64, open as u64));
     20
+}
+
+// The answer of a writing as one number.
+fn number_of(written: Written) -> u64
+    ensures { λ r. ⌜ ((e : Encoded) → written ≡ writtenOf e → r ≡ answerNumber e) ⌝ }
+{
+    match written {
+        Written::Length(n) => n as u64,
+        Written::Refused { number, place } => number as u64 * 4294967296 + place as u64,
+    }
+}
+
+// Writes the message that 20 cells stand for, as `castanetash_read` fills them, with its open bytes
+// into the front of `out`. Returns its length; else the refusal number times 2 ^ 32 plus the place,
+// and nothing changes. 255 is for cells that are no message's.
+#[no_mangle]
+pub extern "C" fn castanetash_write(cells: &[u64], way: u8, open: &[u8], out: &mut [u8]) -> u64
+    ensures { λ r. ⌜ (r ≡ answerNumber (writtenFrom (givenOf (now (cells .entry))) (length (now (out .entry))) (wayOf way) (now («open» .entry)))) × (now (out .exit) ≡ lentAfter (writtenFrom (givenOf (now (cells .entry))) (length (now (out .entry))) (wayOf way) (now («open» .entry))) (now (out .entry))) ⌝ }
+{
+    match find(cells) {
+        Given::Nothing => 255 * 4294967296,
+        Given::Found(m) => number_of(write(m, way_of(way), open, out)),
+    }
 }

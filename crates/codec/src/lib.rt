@@ -1,7 +1,7 @@
 // Reading messages of LEGO Wireless Protocol 3.0, each function proved equal to its definition in
 // the crate `protocol`.
 mod mode;
-mod number;
+pub mod number;
 mod port;
 mod property;
 

@@ -58,7 +58,7 @@ pub(crate) fn u48_at(s: &[u8], at: usize) -> u64
 }
 
 // A byte in two's complement.
-pub(crate) fn i8_of(n: u8) -> i8
+pub fn i8_of(n: u8) -> i8
     ensures { λ r. ⌜ r ≡ twosComplement 1 n ⌝ }
 {
     if n < 128 {
@@ -69,7 +69,7 @@ pub(crate) fn i8_of(n: u8) -> i8
 }
 
 // Four bytes in two's complement.
-pub(crate) fn i32_of(n: u32) -> i32
+pub fn i32_of(n: u32) -> i32
     ensures { λ r. ⌜ r ≡ twosComplement 4 n ⌝ }
 {
     if n < 2147483648 {
