@@ -4,7 +4,7 @@ use native.Mathlib.Omega.{arith}
 use mathlib.Core.Path.{_≡_, refl}
 use lib.ListN.{length}
 use Rattle.protocol.specs.Encode.{Encoded, encoded, refused}
-use Rattle.protocol.specs.Writing.{writtenOf}
+use Rattle.writer.specs.Writing.{writtenOf}
 use Rattle.protocol.specs.declared.Written.{Written}
 use Rattle.protocol.specs.declared.Written.the-variants.{Length, Refused}
 use Rattle.capi.specs.Given.{answerNumber}

@@ -17,7 +17,7 @@ ghost use lib.ListN.{drop, length};
 ghost use mathlib.Core.List.{_++_};
 ghost use Rattle.protocol.specs.Answer.{answerOf};
 ghost use Rattle.protocol.specs.Encode.{Encoded};
-ghost use Rattle.protocol.specs.Writing.{lentAfter, writtenOf};
+ghost use Rattle.writer.specs.Writing.{lentAfter, writtenOf};
 ghost use Rattle.capi.specs.Given.{answerNumber, givenOf, writtenFrom};
 ghost use Rattle.capi.specs.Cells.{cellsAfter, cellsOf, filled, openStart, wayOf};
 

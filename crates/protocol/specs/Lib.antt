@@ -4,7 +4,6 @@ pub mod Field
 pub mod Properties
 pub mod Form
 pub mod Types
-pub mod Writing
 pub mod Decode
 pub mod Answer
 pub mod Encode

@@ -16,7 +16,7 @@ use Rattle.protocol.specs.Form
 use Rattle.protocol.specs.Form.{Form, informationType, alertStatus, bootString, lockString, Rest, nothing, openRun, words, layout, code}
 use Rattle.protocol.specs.Answer.{formOf, valuesOf, naturalAt}
 use Rattle.protocol.specs.Encode.{Encoded, encoded, refused, Step, good, bad, stepField, taken, holds, fieldBytes, lowFirst, Written, outside, wrote, before, writeFields, restFits, writeRest, thenRest, framed, closed, afterField, afterFields, frontValue, frontValues, encodeForm}
-use Rattle.protocol.specs.Writing.{limited, writtenOf, lentAfter}
+use Rattle.writer.specs.Writing.{limited, writtenOf, lentAfter}
 use Rattle.protocol.specs.declared.Written.the-variants as Written'
 use Rattle.protocol.specs.declared.Combinations.{Combinations}
 use Rattle.protocol.specs.declared.Message.{Message}

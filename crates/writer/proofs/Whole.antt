@@ -7,7 +7,7 @@ use mathlib.Core.List.{List, [], _∷_, _++_, append-assoc}
 use borrow.Author.Tests.{lt-ltb, le-ltb}
 use lib.ListN.{length, set, drop, length-append, length-set}
 use Rattle.protocol.specs.Encode.{encoded, refused}
-use Rattle.protocol.specs.Writing.{limited}
+use Rattle.writer.specs.Writing.{limited}
 use Rattle.writer.proofs.Over.{over-over, over-length}
 use Rattle.writer.specs.Slot.{slotsBytes, messageBytes, over}
 use Rattle.writer.specs.declared.slot.Slot.{Slot}

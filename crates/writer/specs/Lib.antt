@@ -1,3 +1,4 @@
 pub mod Choice
 pub mod Open
 pub mod Slot
+pub mod Writing

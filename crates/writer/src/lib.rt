@@ -20,7 +20,7 @@ ghost use mathlib.Core.Path.{_≡_};
 ghost use Prim.Native.Nat.{_+_, _≤_};
 ghost use lib.ListN.{length};
 ghost use Rattle.protocol.specs.Encode.{encode, encoded};
-ghost use Rattle.protocol.specs.Writing.{lentAfter, limited, writtenOf};
+ghost use Rattle.writer.specs.Writing.{lentAfter, limited, writtenOf};
 ghost use Rattle.writer.specs.Slot.{firstOutside, messageBytes, over, slotsBytes};
 
 // The place of the first field that does not hold its value; 0 where all do.

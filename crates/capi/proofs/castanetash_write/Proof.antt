@@ -1,7 +1,7 @@
 use mathlib.Core.Path.{_≡_, sym, _∙_, ap}
 use lib.ListN.{length}
 use Rattle.protocol.specs.Encode.{Encoded, encode}
-use Rattle.protocol.specs.Writing.{limited, lentAfter}
+use Rattle.writer.specs.Writing.{limited, lentAfter}
 use Rattle.protocol.specs.declared.Way.{Way}
 use Rattle.capi.specs.Cells.{wayOf}
 use Rattle.capi.specs.Given.{givenOf, writtenFrom, answerNumber}

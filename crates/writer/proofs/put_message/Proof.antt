@@ -5,7 +5,7 @@ use mathlib.Core.List.{List}
 use lib.ListN.{length}
 use lib.Seq.{lt-length-set}
 use Rattle.protocol.specs.Encode.{Encoded}
-use Rattle.protocol.specs.Writing.{writtenOf, lentAfter}
+use Rattle.writer.specs.Writing.{writtenOf, lentAfter}
 use Rattle.protocol.specs.declared.Written.the-variants.{Length}
 use Rattle.writer.proofs.Whole.{size-is, too-short, long-enough, header-length, message-put}
 use Rattle.writer.specs.Slot.{over}
