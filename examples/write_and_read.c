@@ -8,6 +8,7 @@ int main(void)
 {
     uint64_t cells[CASTANETASH_CELLS] = {0};
     uint8_t message[CASTANETASH_LONGEST];
+    const uint8_t no_open_bytes[1] = {0};
     uint64_t length, i;
 
     cells[CASTANETASH_FORM] = CASTANETASH_INPUT_FORMAT_SETUP;
@@ -15,7 +16,8 @@ int main(void)
     cells[CASTANETASH_VALUES + 1] = 2; /* mode */
     cells[CASTANETASH_VALUES + 2] = 1; /* delta */
     cells[CASTANETASH_VALUES + 3] = 1; /* notify */
-    length = castanetash_write(cells, CASTANETASH_CELLS, CASTANETASH_DOWN, NULL, 0, message, sizeof message);
+    length = castanetash_write(cells, CASTANETASH_CELLS, CASTANETASH_DOWN, no_open_bytes, 0, message,
+                               sizeof message);
     if (CASTANETASH_WRITE_REFUSAL(length) != 0) {
         printf("not written: refusal %u, place %u\n", (unsigned)CASTANETASH_WRITE_REFUSAL(length),
                (unsigned)CASTANETASH_WRITE_PLACE(length));

@@ -1,7 +1,7 @@
 /* Castanetash: reads and writes messages of the LEGO Wireless Protocol 3.0.
  *
- * Link with libcapi.a. A slice passes as a pointer and a length; the pointer of an empty one may be NULL. No call keeps
- * a pointer, and none changes anything but the slice it fills.
+ * Link with libcapi.a. A slice passes as a pointer and a length; the pointer is not NULL, of an empty slice neither. No
+ * call keeps a pointer, and none changes anything but the slice it fills, which overlaps no other.
  */
 #ifndef CASTANETASH_H
 #define CASTANETASH_H
