@@ -1,0 +1,63 @@
+-- Judging a message on a view: refusals 10 to 16 in the order of document 01, 0 where it is accepted. Their place is 0.
+use Prim.Native.Nat.{ℕ, _*_}
+use mathlib.Core.Bool.{Bool, true, false, cond, not, _&&_}
+use mathlib.Core.Option.{Option, none, some}
+use lib.Dec.{eqb}
+use Rattle.rules.specs.Effect.{Effect, nothing, names, attach, attachVirtual, detach, setFormat, answer, ask, value, disconnect, connect, empty}
+use Rattle.rules.specs.Facts.{Setup, Format, Facts, View, known, isUnjoined, isVirtual}
+
+-- bytes of a dataset, by kind: 1, 2, 4, 4
+abbrev pub widthOf : ℕ → ℕ
+widthOf kind = cond (eqb kind 0) 1 (cond (eqb kind 1) 2 4)
+
+abbrev pub unjoinedHere : Option Facts → Bool
+unjoinedHere none = false
+unjoinedHere (some f) = isUnjoined (f .wiring)
+
+-- both present, different, physical and unjoined
+abbrev pub goodPair : View → ℕ → ℕ → Bool
+goodPair view a b = unjoinedHere (view a) && unjoinedHere (view b) && not (eqb a b)
+
+abbrev pub present : View → ℕ → Bool
+present view port = known (view port)
+
+-- 10: the port named isn't present
+abbrev pub wants : View → ℕ → ℕ
+wants view port = cond (present view port) 0 10
+
+-- 13: all sixteen records are in use
+abbrev pub room : Bool → ℕ
+room full = cond full 13 0
+
+-- a value's bytes by the format of its mode: 15, 16
+abbrev pub byFormat : Option Format → ℕ → ℕ
+byFormat none count = 15
+byFormat (some f) count = cond (eqb count (f .datasets * widthOf (f .kind))) 0 16
+
+-- by the latest 47's mode: 14
+abbrev pub byMode : Option Setup → (ℕ → Option Format) → ℕ → ℕ
+byMode none formats count = 14
+byMode (some s) formats count = byFormat (formats (s .mode)) count
+
+abbrev pub judgeValue : Option Facts → ℕ → ℕ
+judgeValue none count = 10
+judgeValue (some f) count = byMode (f .answered) (f .formats) count
+
+abbrev pub judgeDisconnect : Option Facts → ℕ
+judgeDisconnect none = 10
+judgeDisconnect (some f) = cond (isVirtual (f .wiring)) 0 12
+
+-- a message with so many open bytes; `full` where sixteen ports are present
+unfoldable pub judge : View → Bool → Effect → ℕ → ℕ
+judge view full nothing count = 0
+judge view full (names port) count = wants view port
+judge view full (attach port device) count = cond (present view port) 11 (room full)
+judge view full (attachVirtual port device a b) count = cond (present view port) 11 (cond (goodPair view a b) (room full) 12)
+judge view full (detach port) count = wants view port
+judge view full (setFormat port mode f) count = wants view port
+judge view full (answer port s) count = wants view port
+judge view full (ask port s) count = wants view port
+judge view full (value port) count = judgeValue (view port) count
+judge view full (disconnect port) count = judgeDisconnect (view port)
+judge view full (connect a b) count = cond (goodPair view a b) 0 12
+judge view full empty count = 0

@@ -1,0 +1,11 @@
+pub mod Facts
+pub mod Effect
+pub mod Judge
+pub mod Value
+pub mod History
+pub mod Table
+pub mod WellFormed
+pub mod Ranges
+pub mod Cells
+pub mod Offer
+pub mod Demand3

@@ -1,0 +1,61 @@
+-- A sound table, in document 01's words: no port twice; a virtual record names two different physical records, both joined
+-- to it, and nothing else is joined; fields within their lists; state fits its rule.
+use Prim.Native.Nat.{ℕ, zero, suc}
+use mathlib.Core.Bool.{Bool, true, false, cond, not, _&&_, _||_}
+use mathlib.Core.List.{List, [], _∷_}
+use mathlib.Core.Option.{Option, none, some}
+use lib.Dec.{eqb, leb, ltb}
+use Rattle.protocol.specs.Rule.{between}
+use Rattle.rules.specs.Facts.{Setup, sameSetup, Format, Wiring, unjoined, joined, virtual, Facts, View, known}
+use Rattle.rules.specs.Table.{Record, Table, viewOfTable}
+
+abbrev pub setupFits : Option Setup → Bool
+setupFits none = true
+setupFits (some s) = leb (s .mode) 15 && ltb (s .delta) 4294967296 && leb (s .notify) 1
+
+abbrev pub formatFits : Option Format → Bool
+formatFits none = true
+formatFits (some f) = between 1 16 (f .datasets) && leb (f .kind) 3 && ltb (f .figures) 256 && ltb (f .decimals) 256
+
+-- the formats of the modes below a number
+abbrev pub formatsFit : ℕ → (ℕ → Option Format) → Bool
+formatsFit zero formats = true
+formatsFit (suc m) formats = formatFits (formats m) && formatsFit m formats
+
+-- 0 nothing asked; 1 asked; 2 or 3 by the latest 47
+abbrev pub stateAfter : Setup → Option Setup → ℕ → Bool
+stateAfter s none state = eqb state 1
+stateAfter s (some t) state = eqb state 1 || eqb state (cond (sameSetup s t) 2 3)
+
+abbrev pub stateFits : Option Setup → Option Setup → ℕ → Bool
+stateFits none answered state = eqb state 0
+stateFits (some s) answered state = stateAfter s answered state
+
+abbrev pub isJoinedTo : ℕ → Option Facts → Bool
+isJoinedTo v none = false
+isJoinedTo v (some f) = elim (f .wiring) [ unjoined ↦ false | joined w ↦ eqb w v | virtual a b ↦ false ]
+
+abbrev pub isPairWith : ℕ → Option Facts → Bool
+isPairWith port none = false
+isPairWith port (some f) = elim (f .wiring) [ unjoined ↦ false | joined w ↦ false | virtual a b ↦ eqb a port || eqb b port ]
+
+abbrev pub wiringFits : View → ℕ → Wiring → Bool
+wiringFits view port unjoined = true
+wiringFits view port (joined v) = ltb v 256 && isPairWith port (view v)
+wiringFits view port (virtual a b) = ltb a 256 && ltb b 256 && not (eqb a b) && isJoinedTo port (view a) && isJoinedTo port (view b)
+
+-- fields within their lists, and the state by its rule
+abbrev pub factsFit : Facts → Bool
+factsFit f = ltb (f .device) 65536 && formatsFit 16 (f .formats) && setupFits (f .answered) && setupFits (f .asked) && stateFits (f .asked) (f .answered) (f .state)
+
+abbrev pub recordFits : View → Record → Bool
+recordFits view r = ltb (r .port) 256 && factsFit (r .facts) && wiringFits view (r .port) (r .facts .wiring)
+
+-- every record fits, and no port stands in a later place too
+abbrev pub placesFit : View → Table → Bool
+placesFit view [] = true
+placesFit view (none ∷ t) = placesFit view t
+placesFit view (some r ∷ t) = recordFits view r && not (known (viewOfTable t (r .port))) && placesFit view t
+
+unfoldable pub wellFormed : Table → Bool
+wellFormed t = placesFit (viewOfTable t) t
