@@ -31,13 +31,23 @@ abbrev pub stateFits : Option Setup → Option Setup → ℕ → Bool
 stateFits none answered state = eqb state 0
 stateFits (some s) answered state = stateAfter s answered state
 
+abbrev pub joinedTo : ℕ → Wiring → Bool
+joinedTo v unjoined = false
+joinedTo v (joined w) = eqb w v
+joinedTo v (virtual a b) = false
+
 abbrev pub isJoinedTo : ℕ → Option Facts → Bool
 isJoinedTo v none = false
-isJoinedTo v (some f) = elim (f .wiring) [ unjoined ↦ false | joined w ↦ eqb w v | virtual a b ↦ false ]
+isJoinedTo v (some f) = joinedTo v (f .wiring)
+
+abbrev pub pairWith : ℕ → Wiring → Bool
+pairWith port unjoined = false
+pairWith port (joined w) = false
+pairWith port (virtual a b) = eqb a port || eqb b port
 
 abbrev pub isPairWith : ℕ → Option Facts → Bool
 isPairWith port none = false
-isPairWith port (some f) = elim (f .wiring) [ unjoined ↦ false | joined w ↦ false | virtual a b ↦ eqb a port || eqb b port ]
+isPairWith port (some f) = pairWith port (f .wiring)
 
 abbrev pub wiringFits : View → ℕ → Wiring → Bool
 wiringFits view port unjoined = true
