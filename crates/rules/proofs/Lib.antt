@@ -1,0 +1,2 @@
+pub mod CellsRecord
+pub mod CellsTable
