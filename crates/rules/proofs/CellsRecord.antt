@@ -2,22 +2,22 @@
 use Prim.Native.Nat.{ℕ, zero, suc, _+_, _*_, _/_, _%_, _≤_, _<_}
 use native.Mathlib.Nat.{zero-add, add-zero, add-suc, suc-add}
 use native.Mathlib.Omega.{arith}
-use mathlib.Core.Path.{_≡_, refl, sym, _∙_, ap}
+use mathlib.Core.Path.{_≡_, refl, _∙_, ap}
 use mathlib.Core.Bool.{Bool, true, false, _&&_}
-use mathlib.Core.List.{List, [], _∷_, _++_}
+use mathlib.Core.List.{List, _∷_, _++_}
 use mathlib.Core.Logic.{⊎-elim}
 use mathlib.Core.Option.{Option, none, some}
 use borrow.Author.Tests.{ltb-true, ltb-false, leb-true, eqb-true, eqb-false}
 use lib.Dec.{eqb, leb, ltb}
-use lib.ListN.{length, getD, take, replicate}
+use lib.ListN.{length, getD, take}
 use Rattle.protocol.specs.Form.{upFrom}
 use Rattle.protocol.proofs.Tests.{which, and-left, and-right}
 use Rattle.rules.specs.Facts.{Setup, Format, Wiring, unjoined, joined, virtual, Facts}
 use Rattle.rules.specs.Table.{Record}
 use Rattle.rules.specs.WellFormed.{setupFits, formatFits, formatsFit, stateFits, factsFit}
-use Rattle.rules.specs.Cells.{formatCell, setupCells, wiringCell, firstPartner, secondPartner, formatCells, modes, recordCells, placeCells, formatAt, wiringAt, recordAt, placeAt}
+use Rattle.rules.specs.Cells.{stride, formatCell, setupCells, wiringCell, firstPartner, secondPartner, formatCells, modes, recordCells, placeCells, formatAt, wiringAt, recordAt, placeAt}
 
--- there are sixteen modes
+-- no format of a mode from 16 on
 abbrev pub NoHigh : (ℕ → Option Format) → Type 0
 NoHigh formats = (m : ℕ) → 16 ≤ m → formats m ≡ none
 
@@ -53,7 +53,7 @@ format-back (some f) e =
     let fourth : n / 256 / 256 / 256 ≡ f .decimals = rw twice (omega arith) in
     bytes-at n (omega arith) ∙ λ i. some (record { datasets = first i; kind = second i; figures = third i; decimals = fourth i })
 
--- the cell of a mode, over the modes from one on
+-- the cell of a mode, over the first mode and the number of modes
 mode-cell : (formats : ℕ → Option Format) (from n m : ℕ) → ((k : ℕ) → from + n ≤ k → formats k ≡ none) → getD (formatCells formats (upFrom from n)) m 0 ≡ formatCell (formats (from + m))
 mode-cell formats from zero m high = rw (high (from + m) (omega arith))
 mode-cell formats from (suc n) zero high = rw add-zero
@@ -69,11 +69,10 @@ mode-fits (suc n) formats e m h =
 
 formats-back : (formats : ℕ → Option Format) → NoHigh formats → formatsFit 16 formats ≡ true → (m : ℕ) → formatAt (getD (formatCells formats modes) m 0) ≡ formats m
 formats-back formats high e m =
-    ap formatAt (mode-cell formats 0 16 m high ∙ ap (λ (k : ℕ). formatCell (formats k)) (zero-add m))
-    ∙ format-back (formats m) (⊎-elim
-      (λ (below : ltb m 16 ≡ true). mode-fits 16 formats e m (ltb-true m 16 below))
-      (λ (above : ltb m 16 ≡ false). rw (high m (ltb-false m 16 above)))
-      (which (ltb m 16)))
+    let fits : formatFits (formats m) ≡ true =
+    ⊎-elim (λ (below : ltb m 16 ≡ true). mode-fits 16 formats e m (ltb-true m 16 below)) (λ (above : ltb m 16 ≡ false). rw (high m (ltb-false m 16 above))) (which (ltb m 16))
+    in
+    ap formatAt (mode-cell formats 0 16 m high ∙ ap (λ (k : ℕ). formatCell (formats k)) (zero-add m)) ∙ format-back (formats m) fits
 
 -- ---- the other cells
 
@@ -87,10 +86,10 @@ wired-not-free unjoined = refl
 wired-not-free (joined v) = refl
 wired-not-free (virtual a b) = refl
 
--- what cells stand for, of which six are the setups'
+-- what cells stand for, the setups' among them
 setups-back : (w port device a b state : ℕ) (asked answered : Option Setup) (fs : List ℕ) → recordAt (w ∷ port ∷ device ∷ a ∷ b ∷ state ∷ (setupCells asked ++ setupCells answered ++ fs)) ≡ record {
   port = port;
-  facts = record { device = device; wiring = wiringAt w a b; formats = λ mode. formatAt (getD (take 16 fs) mode 0); answered = answered; asked = asked; state = state }
+  facts = record { device = device; wiring = wiringAt w a b; formats = λ mode. formatAt (getD (take 16 fs) mode 0); answered = answered; asked = asked; state = state };
 }
 unfolding recordAt
 setups-back w port device a b state none none fs = refl
@@ -106,7 +105,7 @@ setups-length (some s) (some t) fs = omega arith
 
 -- ---- a record, and a place
 
-record-back : (r : Record) → NoHigh (r .facts .formats) → factsFit (r .facts) ≡ true → recordAt (recordCells r) ≡ r
+pub record-back : (r : Record) → NoHigh (r .facts .formats) → factsFit (r .facts) ≡ true → recordAt (recordCells r) ≡ r
 unfolding recordCells
 record-back r high fits =
     let f : Facts = r .facts in
@@ -124,15 +123,15 @@ record-back r high fits =
       };
     }
 
-record-length : (r : Record) → length (recordCells r) ≡ 28
+record-length : (r : Record) → length (recordCells r) ≡ stride
 unfolding recordCells
 record-length r = rw setups-length
 
--- a free place decodes by its first cell, and no record has that cell
+-- no record has the first cell of a free place
 pub record-place : (r : Record) → NoHigh (r .facts .formats) → factsFit (r .facts) ≡ true → placeAt (recordCells r) ≡ some r
 unfolding recordCells
 record-place r high fits = rw (wired-not-free (r .facts .wiring)) (ap some (record-back r high fits))
 
-pub place-length : (p : Option Record) → length (placeCells p) ≡ 28
+pub place-length : (p : Option Record) → length (placeCells p) ≡ stride
 place-length none = refl
 place-length (some r) = record-length r

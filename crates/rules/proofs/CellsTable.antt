@@ -1,20 +1,19 @@
 -- The table in cells: decoding what was encoded.
-use Prim.Native.Nat.{ℕ, zero, suc, _+_, _*_, _≤_}
-use native.Mathlib.Omega.{arith}
+use Prim.Native.Nat.{ℕ, suc}
 use mathlib.Core.Path.{_≡_, refl, sym, _∙_, ap}
-use mathlib.Core.Bool.{Bool, true, false, cond, not, _&&_}
-use mathlib.Core.List.{List, [], _∷_, _++_}
+use mathlib.Core.Bool.{true, not}
+use mathlib.Core.List.{[], _∷_}
 use mathlib.Core.Option.{Option, none, some}
 use lib.Dec.{ltb}
-use lib.ListN.{length, getD, take, drop, replicate}
+use lib.ListN.{length}
 use lib.Seq.{take-at, drop-at}
 use Rattle.rules.specs.Facts.{View, known}
 use Rattle.rules.specs.Table.{Record, Table, viewOfTable}
 use Rattle.rules.specs.WellFormed.{factsFit, wiringFits, placesFit, wellFormed}
-use Rattle.rules.specs.Cells.{placeCells, cellsOf, placeAt, placesAt, tableAt}
+use Rattle.rules.specs.Cells.{stride, placeCells, cellsOf, placeAt, placesAt, tableAt}
 use Rattle.rules.proofs.CellsRecord.{NoHigh, five-passed, record-place, place-length}
 
--- no record has a format of a mode that is not
+-- no record has a format of a mode from 16 on
 abbrev pub NoHighFormats : Table → Type 0
 NoHighFormats [] = Unit {0}
 NoHighFormats (none ∷ t) = NoHighFormats t
@@ -23,7 +22,7 @@ NoHighFormats (some r ∷ t) = NoHigh (r .facts .formats) × NoHighFormats t
 -- a place, and those after it
 place-then : (p : Option Record) (t : Table) → placeAt (placeCells p) ≡ p → placesAt (length t) (cellsOf t) ≡ t → placesAt (suc (length t)) (cellsOf (p ∷ t)) ≡ p ∷ t
 unfolding cellsOf
-place-then p t here there = rw (take-at (placeCells p) (cellsOf t) 28 (place-length p), drop-at (placeCells p) (cellsOf t) 28 (place-length p), here, there)
+place-then p t here there = rw (take-at (placeCells p) (cellsOf t) stride (place-length p), drop-at (placeCells p) (cellsOf t) stride (place-length p), here, there)
 
 places-back : (view : View) (t : Table) → NoHighFormats t → placesFit view t ≡ true → placesAt (length t) (cellsOf t) ≡ t
 places-back view [] high fits = refl

@@ -1,2 +1,3 @@
 pub mod CellsRecord
 pub mod CellsTable
+pub mod CellsSound
