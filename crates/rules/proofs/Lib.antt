@@ -1,5 +1,9 @@
 pub mod Apply
+pub mod CellsRecord
+pub mod CellsSound
+pub mod CellsTable
 pub mod Keep
+pub mod Kept
 pub mod Lookup
 pub mod Pairs
 pub mod Sound
