@@ -2,6 +2,7 @@ pub mod Apply
 pub mod CellsRecord
 pub mod CellsSound
 pub mod CellsTable
+pub mod Follows
 pub mod Keep
 pub mod Kept
 pub mod Lookup

@@ -1,0 +1,168 @@
+-- A table follows a history: at every port it has what the history says, but for who is joined to whom, which follows
+-- from soundness. Each accepted message keeps that.
+use Prim.Native.Nat.{ℕ, zero, suc}
+use mathlib.Core.Path.{_≡_, refl, sym, _∙_, ap}
+use mathlib.Core.Bool.{Bool, true, false, cond, _&&_, _||_}
+use mathlib.Core.List.{List, [], _∷_, map}
+use mathlib.Core.Option.{Option, none, some}
+use mathlib.Core.Logic.{_⊎_, inl, inr, ⊎-elim}
+use native.Mathlib.Omega.{arith}
+use borrow.Author.Tests.{eqb-true, eqb-false, eq-eqb, ne-eqb}
+use lib.Dec.{eqb}
+use Rattle.protocol.proofs.Tests.{which}
+use Rattle.rules.specs.Effect.{Effect, nothing, names, attach, attachVirtual, detach, setFormat, answer, ask, value, disconnect, connect, empty}
+use Rattle.rules.specs.Facts.{Setup, sameSetup, Format, Wiring, unjoined, joined, virtual, Facts, View, known}
+use Rattle.rules.specs.Judge.{goodPair, judge}
+use Rattle.rules.specs.History.{History, Attachment, plain, pair, Since, absent, since, hasMember, later, afterDetach, sinceAttached, orElse, latestFormat, latestAnswered, latestAsked, afterAsking, stateBy, stateOf, deviceOf}
+use Rattle.rules.specs.Table.{Record, Table, fullTable, viewOfTable, insert, change, remove, freed, wired, wiredAs, dissolve, dissolveBy, detachBy, bare, newRecord, withFormat, withAnswer, answeredState, withAsk, apply}
+use Rattle.rules.proofs.Lookup.{mapFacts, after, view-change, view-remove, view-insert, view-freed}
+use Rattle.rules.proofs.Pairs.{Wired, Pairs, Named}
+use Rattle.rules.proofs.Sound.{wiring?, wiredIn, Sound, Seen, seen}
+
+-- a wiring without the partner of a joined port
+abbrev pub unwired : Wiring → Wiring
+unwired unjoined = unjoined
+unwired (joined v) = unjoined
+unwired (virtual a b) = virtual a b
+
+abbrev pub unwire : Facts → Facts
+unwire f = wired (unwired (f .wiring)) f
+
+abbrev pub attachedAs : Attachment → Wiring
+attachedAs (plain device) = unjoined
+attachedAs (pair device a b) = virtual a b
+
+-- what a history says of a port, but for a joined port's partner
+abbrev pub told : ℕ → Since → Option Facts
+told port absent = none
+told port (since a later) =
+    some (record {
+      device = deviceOf a;
+      wiring = attachedAs a;
+      formats = latestFormat port later;
+      answered = latestAnswered port later;
+      asked = latestAsked port later;
+      state = stateOf port later;
+    })
+
+abbrev pub Follows : Table → History → Type 0
+Follows t h = (q : ℕ) → mapFacts unwire (viewOfTable t q) ≡ told q (sinceAttached q h)
+
+-- ---- on the side of the history
+
+-- messages that tell nothing of any port
+quiet-nothing : (q : ℕ) (s : Since) → told q (later nothing s) ≡ told q s
+quiet-nothing q absent = refl
+quiet-nothing q (since a l) = refl
+
+quiet-names : (q p : ℕ) (s : Since) → told q (later (names p) s) ≡ told q s
+quiet-names q p absent = refl
+quiet-names q p (since a l) = refl
+
+quiet-attach : (q p d : ℕ) (s : Since) → told q (later (attach p d) s) ≡ told q s
+quiet-attach q p d absent = refl
+quiet-attach q p d (since a l) = refl
+
+quiet-virtual : (q p d x y : ℕ) (s : Since) → told q (later (attachVirtual p d x y) s) ≡ told q s
+quiet-virtual q p d x y absent = refl
+quiet-virtual q p d x y (since a l) = refl
+
+quiet-value : (q p : ℕ) (s : Since) → told q (later (value p) s) ≡ told q s
+quiet-value q p absent = refl
+quiet-value q p (since a l) = refl
+
+quiet-disconnect : (q p : ℕ) (s : Since) → told q (later (disconnect p) s) ≡ told q s
+quiet-disconnect q p absent = refl
+quiet-disconnect q p (since a l) = refl
+
+quiet-connect : (q x y : ℕ) (s : Since) → told q (later (connect x y) s) ≡ told q s
+quiet-connect q x y absent = refl
+quiet-connect q x y (since a l) = refl
+
+-- a member's detachment ends a virtual port, and no other
+abbrev pub member? : Since → ℕ → Bool
+member? absent p = false
+member? (since a l) p = hasMember a p
+
+quiet-detach : (q p : ℕ) (s : Since) → member? s p ≡ false → told q (afterDetach p s) ≡ told q s
+quiet-detach q p absent e = refl
+quiet-detach q p (since a l) e = ap (told q) (ap (λ (b : Bool). cond b absent (since a (detach p ∷ l))) e)
+
+ended : (q p : ℕ) (s : Since) → member? s p ≡ true → told q (afterDetach p s) ≡ none
+ended q p absent e = refl
+ended q p (since a l) e = ap (told q) (ap (λ (b : Bool). cond b absent (since a (detach p ∷ l))) e)
+
+-- messages that tell something of one port
+same-format : (b : Bool) (f : Format) (old : Option Format) → orElse (cond (true && b) (some f) none) old ≡ cond b (some f) old
+same-format true f old = refl
+same-format false f old = refl
+
+tells-format : (q p m : ℕ) (f : Format) (s : Since) → told q (later (setFormat p m f) s) ≡ after p (withFormat m f) q (told q s)
+tells-format q p m f absent = go (eqb p q)
+  where
+    go : (b : Bool) → none ≡ cond b (mapFacts (withFormat m f) none) none
+    go true = refl
+    go false = refl
+tells-format q p m f (since a l) = go (eqb p q) refl
+  where
+    go : (b : Bool) → eqb p q ≡ b → told q (since a (setFormat p m f ∷ l)) ≡ cond b (mapFacts (withFormat m f) (told q (since a l))) (told q (since a l))
+    go true e = λ i. some (record {
+      device = deviceOf a;
+      wiring = attachedAs a;
+      formats = λ mode. (ap (λ (b : Bool). orElse (cond (b && eqb m mode) (some f) none) (latestFormat q l mode)) e ∙ same-format (eqb m mode) f (latestFormat q l mode)) i;
+      answered = latestAnswered q l;
+      asked = latestAsked q l;
+      state = stateOf q l;
+    })
+    go false e = λ i. some (record {
+      device = deviceOf a;
+      wiring = attachedAs a;
+      formats = λ mode. ap (λ (b : Bool). orElse (cond (b && eqb m mode) (some f) none) (latestFormat q l mode)) e i;
+      answered = latestAnswered q l;
+      asked = latestAsked q l;
+      state = stateOf q l;
+    })
+
+-- the state after a 47, by what was asked
+state-answered : (x : Option Setup) (s : Setup) → stateBy x (some s) ≡ answeredState x s
+state-answered none s = refl
+state-answered (some t) s = refl
+
+tells-answer : (q p : ℕ) (s : Setup) (x : Since) → told q (later (answer p s) x) ≡ after p (withAnswer s) q (told q x)
+tells-answer q p s absent = go (eqb p q)
+  where
+    go : (b : Bool) → none ≡ cond b (mapFacts (withAnswer s) none) none
+    go true = refl
+    go false = refl
+tells-answer q p s (since a l) = go (eqb p q)
+  where
+    go : (b : Bool)
+        → some (record {
+          device = deviceOf a;
+          wiring = attachedAs a;
+          formats = latestFormat q l;
+          answered = orElse (cond b (some s) none) (latestAnswered q l);
+          asked = latestAsked q l;
+          state = stateBy (latestAsked q l) (orElse (cond b (some s) none) (latestAnswered q (afterAsking q l)));
+        }) ≡ cond b (mapFacts (withAnswer s) (told q (since a l))) (told q (since a l))
+    go true = λ i. some (record {
+      device = deviceOf a;
+      wiring = attachedAs a;
+      formats = latestFormat q l;
+      answered = some s;
+      asked = latestAsked q l;
+      state = state-answered (latestAsked q l) s i;
+    })
+    go false = refl
+
+tells-ask : (q p : ℕ) (s : Setup) (x : Since) → told q (later (ask p s) x) ≡ after p (withAsk s) q (told q x)
+tells-ask q p s absent = go (eqb p q)
+  where
+    go : (b : Bool) → none ≡ cond b (mapFacts (withAsk s) none) none
+    go true = refl
+    go false = refl
+tells-ask q p s (since a l) = go (eqb p q) refl
+  where
+    go : (b : Bool) → eqb p q ≡ b → told q (since a (ask p s ∷ l)) ≡ cond b (mapFacts (withAsk s) (told q (since a l))) (told q (since a l))
+    go true e = ?
+    go false e = ?
