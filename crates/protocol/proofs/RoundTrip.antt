@@ -422,3 +422,9 @@ refused-only way m opens number place e s b d o =
 -- what writing gives is no longer than 127 bytes
 pub written-short : (m : Message) (opens t : List ℕ) → encodeForm (formOf m) (valuesOf m) opens ≡ encoded t → length t ≤ 127
 written-short m opens t e = short (formOf m) (length t) (form-read (formOf m) (valuesOf m) opens t (settling m .0) e .size)
+
+-- what reading accepts is read by the very form
+pub form-accepted : (way : Way) (s : List ℕ) (f : Form) (vs : List Value) → decode way s ≡ accepted f vs → decodeForm f s ≡ accepted f vs
+form-accepted way s f vs e =
+    let t = type-found way s f vs (headed way s f vs e .rest) in
+    chosen (getD s 2 0) (t .type .selectors) (t .type .selection) (leads way (getD s 2 0) (t .type) (t .found)) s f vs (t .rest) .form
