@@ -131,7 +131,7 @@ module _ (t : Table) (s : Sound t) (p a b : ℕ) (here : wiredIn t p ≡ some (v
     pairs = pairs-ext (three p a b none (some unjoined) (wiredIn t)) (wiredIn (dissolve p a b t)) (λ q. sym (wired-dissolve q)) (pairs-dissolve (wiredIn t) (s .pairs) p a b here);
   }
 
-full-change : (p : ℕ) (g : Facts → Facts) (t : Table) → fullTable (change p g t) ≡ fullTable t
+pub full-change : (p : ℕ) (g : Facts → Facts) (t : Table) → fullTable (change p g t) ≡ fullTable t
 full-change p g [] = refl
 full-change p g (none ∷ t) = refl
 full-change p g (some r ∷ t) = full-change p g t

@@ -13,7 +13,7 @@ use Rattle.protocol.proofs.Tests.{which}
 use Rattle.rules.specs.Effect.{Effect, nothing, names, attach, attachVirtual, detach, setFormat, answer, ask, value, disconnect, connect, empty}
 use Rattle.rules.specs.Facts.{Setup, sameSetup, Format, Wiring, unjoined, joined, virtual, Facts, View, known}
 use Rattle.rules.specs.Judge.{goodPair, judge}
-use Rattle.rules.specs.History.{History, Attachment, plain, pair, Since, absent, since, hasMember, later, afterDetach, sinceAttached, orElse, latestFormat, latestAnswered, latestAsked, afterAsking, stateBy, stateOf, deviceOf}
+use Rattle.rules.specs.History.{History, Attachment, plain, pair, Since, absent, since, hasMember, later, afterDetach, sinceAttached, orElse, latestFormat, latestAnswered, latestAsked, newerThan, afterAsking, stateBy, stateOf, deviceOf}
 use Rattle.rules.specs.Table.{Record, Table, fullTable, viewOfTable, insert, change, remove, freed, wired, wiredAs, dissolve, dissolveBy, detachBy, bare, newRecord, withFormat, withAnswer, answeredState, withAsk, apply}
 use Rattle.rules.proofs.Lookup.{mapFacts, after, view-change, view-remove, view-insert, view-freed}
 use Rattle.rules.proofs.Pairs.{Wired, Pairs, Named}
@@ -51,31 +51,31 @@ Follows t h = (q : ℕ) → mapFacts unwire (viewOfTable t q) ≡ told q (sinceA
 -- ---- on the side of the history
 
 -- messages that tell nothing of any port
-quiet-nothing : (q : ℕ) (s : Since) → told q (later nothing s) ≡ told q s
+pub quiet-nothing : (q : ℕ) (s : Since) → told q (later nothing s) ≡ told q s
 quiet-nothing q absent = refl
 quiet-nothing q (since a l) = refl
 
-quiet-names : (q p : ℕ) (s : Since) → told q (later (names p) s) ≡ told q s
+pub quiet-names : (q p : ℕ) (s : Since) → told q (later (names p) s) ≡ told q s
 quiet-names q p absent = refl
 quiet-names q p (since a l) = refl
 
-quiet-attach : (q p d : ℕ) (s : Since) → told q (later (attach p d) s) ≡ told q s
+pub quiet-attach : (q p d : ℕ) (s : Since) → told q (later (attach p d) s) ≡ told q s
 quiet-attach q p d absent = refl
 quiet-attach q p d (since a l) = refl
 
-quiet-virtual : (q p d x y : ℕ) (s : Since) → told q (later (attachVirtual p d x y) s) ≡ told q s
+pub quiet-virtual : (q p d x y : ℕ) (s : Since) → told q (later (attachVirtual p d x y) s) ≡ told q s
 quiet-virtual q p d x y absent = refl
 quiet-virtual q p d x y (since a l) = refl
 
-quiet-value : (q p : ℕ) (s : Since) → told q (later (value p) s) ≡ told q s
+pub quiet-value : (q p : ℕ) (s : Since) → told q (later (value p) s) ≡ told q s
 quiet-value q p absent = refl
 quiet-value q p (since a l) = refl
 
-quiet-disconnect : (q p : ℕ) (s : Since) → told q (later (disconnect p) s) ≡ told q s
+pub quiet-disconnect : (q p : ℕ) (s : Since) → told q (later (disconnect p) s) ≡ told q s
 quiet-disconnect q p absent = refl
 quiet-disconnect q p (since a l) = refl
 
-quiet-connect : (q x y : ℕ) (s : Since) → told q (later (connect x y) s) ≡ told q s
+pub quiet-connect : (q x y : ℕ) (s : Since) → told q (later (connect x y) s) ≡ told q s
 quiet-connect q x y absent = refl
 quiet-connect q x y (since a l) = refl
 
@@ -84,11 +84,11 @@ abbrev pub member? : Since → ℕ → Bool
 member? absent p = false
 member? (since a l) p = hasMember a p
 
-quiet-detach : (q p : ℕ) (s : Since) → member? s p ≡ false → told q (afterDetach p s) ≡ told q s
+pub quiet-detach : (q p : ℕ) (s : Since) → member? s p ≡ false → told q (afterDetach p s) ≡ told q s
 quiet-detach q p absent e = refl
 quiet-detach q p (since a l) e = ap (told q) (ap (λ (b : Bool). cond b absent (since a (detach p ∷ l))) e)
 
-ended : (q p : ℕ) (s : Since) → member? s p ≡ true → told q (afterDetach p s) ≡ none
+pub ended : (q p : ℕ) (s : Since) → member? s p ≡ true → told q (afterDetach p s) ≡ none
 ended q p absent e = refl
 ended q p (since a l) e = ap (told q) (ap (λ (b : Bool). cond b absent (since a (detach p ∷ l))) e)
 
@@ -97,7 +97,7 @@ same-format : (b : Bool) (f : Format) (old : Option Format) → orElse (cond (tr
 same-format true f old = refl
 same-format false f old = refl
 
-tells-format : (q p m : ℕ) (f : Format) (s : Since) → told q (later (setFormat p m f) s) ≡ after p (withFormat m f) q (told q s)
+pub tells-format : (q p m : ℕ) (f : Format) (s : Since) → told q (later (setFormat p m f) s) ≡ after p (withFormat m f) q (told q s)
 tells-format q p m f absent = go (eqb p q)
   where
     go : (b : Bool) → none ≡ cond b (mapFacts (withFormat m f) none) none
@@ -128,7 +128,7 @@ state-answered : (x : Option Setup) (s : Setup) → stateBy x (some s) ≡ answe
 state-answered none s = refl
 state-answered (some t) s = refl
 
-tells-answer : (q p : ℕ) (s : Setup) (x : Since) → told q (later (answer p s) x) ≡ after p (withAnswer s) q (told q x)
+pub tells-answer : (q p : ℕ) (s : Setup) (x : Since) → told q (later (answer p s) x) ≡ after p (withAnswer s) q (told q x)
 tells-answer q p s absent = go (eqb p q)
   where
     go : (b : Bool) → none ≡ cond b (mapFacts (withAnswer s) none) none
@@ -155,7 +155,7 @@ tells-answer q p s (since a l) = go (eqb p q)
     })
     go false = refl
 
-tells-ask : (q p : ℕ) (s : Setup) (x : Since) → told q (later (ask p s) x) ≡ after p (withAsk s) q (told q x)
+pub tells-ask : (q p : ℕ) (s : Setup) (x : Since) → told q (later (ask p s) x) ≡ after p (withAsk s) q (told q x)
 tells-ask q p s absent = go (eqb p q)
   where
     go : (b : Bool) → none ≡ cond b (mapFacts (withAsk s) none) none
@@ -163,6 +163,52 @@ tells-ask q p s absent = go (eqb p q)
     go false = refl
 tells-ask q p s (since a l) = go (eqb p q) refl
   where
+    as-asked : Bool → Option Facts
+    as-asked b = some (record {
+      device = deviceOf a;
+      wiring = attachedAs a;
+      formats = latestFormat q l;
+      answered = latestAnswered q l;
+      asked = orElse (cond b (some s) none) (latestAsked q l);
+      state = stateBy (orElse (cond b (some s) none) (latestAsked q l)) (latestAnswered q (newerThan (cond b (some s) none) (ask p s) (afterAsking q l)));
+    })
     go : (b : Bool) → eqb p q ≡ b → told q (since a (ask p s ∷ l)) ≡ cond b (mapFacts (withAsk s) (told q (since a l))) (told q (since a l))
-    go true e = ?
-    go false e = ?
+    go true e = ap as-asked e
+    go false e = ap as-asked e
+
+-- ---- on the side of the table
+
+core-cond : (b : Bool) (x y : Option Facts) → mapFacts unwire (cond b x y) ≡ cond b (mapFacts unwire x) (mapFacts unwire y)
+core-cond true x y = refl
+core-cond false x y = refl
+
+core-map : (g : Facts → Facts) → ((f : Facts) → unwire (g f) ≡ g (unwire f)) → (x : Option Facts) → mapFacts unwire (mapFacts g x) ≡ mapFacts g (mapFacts unwire x)
+core-map g k none = refl
+core-map g k (some f) = ap some (k f)
+
+-- a change that leaves the wiring alone
+pub core-change : (p : ℕ) (g : Facts → Facts) → ((f : Facts) → unwire (g f) ≡ g (unwire f)) → (t : Table) (q : ℕ) → mapFacts unwire (viewOfTable (change p g t) q) ≡ after p g q (mapFacts unwire (viewOfTable t q))
+core-change p g k t q =
+    ap (mapFacts unwire) (view-change p g t q) ∙ core-cond (eqb p q) (mapFacts g (viewOfTable t q)) (viewOfTable t q)
+    ∙ ap (λ (x : Option Facts). cond (eqb p q) x (mapFacts unwire (viewOfTable t q))) (core-map g k (viewOfTable t q))
+
+-- a physical port that is joined or freed
+core-rewired : (x : Option Facts) (y z : Wiring) → wiring? x ≡ some z → unwired y ≡ unwired z → mapFacts unwire (mapFacts (wired y) x) ≡ mapFacts unwire x
+core-rewired none y z e k = refl
+core-rewired (some f) y z e k =
+    let is : f .wiring ≡ z = cc in
+    ap (λ (w : Wiring). some (wired w f)) (k ∙ ap unwired (sym is))
+
+pub core-wired : (p : ℕ) (y z : Wiring) (t : Table) → wiredIn t p ≡ some z → unwired y ≡ unwired z → (q : ℕ) → mapFacts unwire (viewOfTable (change p (wired y) t) q) ≡ mapFacts unwire (viewOfTable t q)
+core-wired p y z t e k q =
+    ap (mapFacts unwire) (view-change p (wired y) t q) ∙ core-cond (eqb p q) (mapFacts (wired y) (viewOfTable t q)) (viewOfTable t q)
+    ∙ ⊎-elim
+    (λ (c : eqb p q ≡ true). rw c (core-rewired (viewOfTable t q) y z (ap (wiredIn t) (sym (eqb-true p q c)) ∙ e) k))
+    (λ (c : eqb p q ≡ false). rw c)
+    (which (eqb p q))
+
+pub core-remove : (p : ℕ) (t : Table) (q : ℕ) → mapFacts unwire (viewOfTable (remove p t) q) ≡ cond (eqb p q) none (mapFacts unwire (viewOfTable t q))
+core-remove p t q = ap (mapFacts unwire) (view-remove p t q) ∙ core-cond (eqb p q) none (viewOfTable t q)
+
+pub core-insert : (new : Record) (t : Table) → fullTable t ≡ false → viewOfTable t (new .port) ≡ none → (q : ℕ) → mapFacts unwire (viewOfTable (insert new t) q) ≡ cond (eqb (new .port) q) (some (unwire (new .facts))) (mapFacts unwire (viewOfTable t q))
+core-insert new t room fresh q = ap (mapFacts unwire) (view-insert new t q room fresh) ∙ core-cond (eqb (new .port) q) (some (new .facts)) (viewOfTable t q)

@@ -103,7 +103,7 @@ pub record Fresh (t : Table) (p : ℕ) : Type 0 where
   pub absent : viewOfTable t p ≡ none
   pub room : fullTable t ≡ false
 
-fresh-by : (x : Option Facts) (full : Bool) → _≡_ {A = ℕ} (cond (known x) 11 (cond full 13 0)) 0 → (x ≡ none) × (full ≡ false)
+pub fresh-by : (x : Option Facts) (full : Bool) → _≡_ {A = ℕ} (cond (known x) 11 (cond full 13 0)) 0 → (x ≡ none) × (full ≡ false)
 fresh-by none true e = let z : _≡_ {A = ℕ} 13 0 = e in absurd (omega arith)
 fresh-by none false e = (refl, refl)
 fresh-by (some f) full e = let z : _≡_ {A = ℕ} 11 0 = e in absurd (omega arith)
@@ -135,7 +135,7 @@ good-pair t a b e =
       apart = eqb-false a b (not-same (eqb a b) (and-right (unjoinedHere (viewOfTable t a) && unjoinedHere (viewOfTable t b)) (not (eqb a b)) e));
     }
 
-virtual-by : (x : Option Facts) (good full : Bool) → _≡_ {A = ℕ} (cond (known x) 11 (cond good (cond full 13 0) 12)) 0 → (x ≡ none) × (good ≡ true) × (full ≡ false)
+pub virtual-by : (x : Option Facts) (good full : Bool) → _≡_ {A = ℕ} (cond (known x) 11 (cond good (cond full 13 0) 12)) 0 → (x ≡ none) × (good ≡ true) × (full ≡ false)
 virtual-by none true true e = let z : _≡_ {A = ℕ} 13 0 = e in absurd (omega arith)
 virtual-by none true false e = (refl, refl, refl)
 virtual-by none false full e = let z : _≡_ {A = ℕ} 12 0 = e in absurd (omega arith)
@@ -147,7 +147,7 @@ not-virtual : (w : Wired) (s : Pairs w) (v a b p : ℕ) → w v ≡ some (virtua
 not-virtual w s v a b p here (inl e) = at-first w v a b none (some unjoined) (port-first w s v a b here) (port-second w s v a b here) p e
 not-virtual w s v a b p here (inr e) = at-second w v a b none (some unjoined) (port-first w s v a b here) (port-second w s v a b here) p e
 
-wired-as : (x : Option Facts) (y : Wiring) → wiring? x ≡ some y → wiredAs x ≡ y
+pub wired-as : (x : Option Facts) (y : Wiring) → wiring? x ≡ some y → wiredAs x ≡ y
 wired-as none y e = let z : _≡_ {A = ℕ} 0 1 = cc in absurd (omega arith)
 wired-as (some f) y e = cc
 
@@ -162,7 +162,7 @@ sound-detach t s p (joined v) e =
     rw known-as (sound-remove p (dissolve v (n .a) (n .b) t) (sound-dissolve t s v (n .a) (n .b) (n .pair)) (inr free))
 sound-detach t s p (virtual a b) e = sound-dissolve t s p a b e
 
-wanted : (x : Option Facts) → _≡_ {A = ℕ} (cond (known x) 0 10) 0 → known x ≡ true
+pub wanted : (x : Option Facts) → _≡_ {A = ℕ} (cond (known x) 0 10) 0 → known x ≡ true
 wanted none e = let z : _≡_ {A = ℕ} 10 0 = e in absurd (omega arith)
 wanted (some f) e = refl
 

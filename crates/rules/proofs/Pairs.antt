@@ -140,7 +140,7 @@ module _ (w : Wired) (p a b : ℕ) (x y : Option Wiring) (pa : p ≡ a → ⊥) 
   pub elsewhere : (q : ℕ) → (p ≡ q → ⊥) → (a ≡ q → ⊥) → (b ≡ q → ⊥) → three p a b x y w q ≡ w q
   elsewhere q np na nb = put-other p x (put b y (put a y w)) q np ∙ put-other b y (put a y w) q nb ∙ put-other a y w q na
 
-joined-same : (u v : ℕ) → some (joined u) ≡ some (joined v) → u ≡ v
+pub joined-same : (u v : ℕ) → some (joined u) ≡ some (joined v) → u ≡ v
 joined-same u v e = cc
 
 virtual-first : (a b c d : ℕ) → some (virtual a b) ≡ some (virtual c d) → a ≡ c
