@@ -60,7 +60,7 @@ joined-to x v e =
     let s = seen x (joined v) e in
     ap (isJoinedTo v) (s .is) ∙ ap (joinedTo v) (s .wired) ∙ eq-eqb v v refl
 
-or-either : (a b p : ℕ) → (a ≡ p) ⊎ (b ≡ p) → (eqb a p || eqb b p) ≡ true
+pub or-either : (a b p : ℕ) → (a ≡ p) ⊎ (b ≡ p) → (eqb a p || eqb b p) ≡ true
 or-either a b p (inl e) = rw (eq-eqb a p e)
 or-either a b p (inr e) = last (eqb a p) (eqb b p) (eq-eqb b p e)
   where

@@ -17,7 +17,7 @@ use Rattle.rules.specs.Table.{Record, Table, fullTable, viewOfTable, ins
 use Rattle.rules.specs.WellFormed.{pairWith}
 use Rattle.rules.proofs.Lookup.{mapFacts, after, view-change, view-freed}
 use Rattle.rules.proofs.Pairs.{Wired, Pairs, Named, put, put-other, joined-same, unjoined-joined, joined-virtual}
-use Rattle.rules.proofs.Sound.{wiring?, wiredIn, Sound}
+use Rattle.rules.proofs.Sound.{wiring?, wiredIn, Sound, or-either}
 use Rattle.rules.proofs.Apply.{wired-change, full-change}
 use Rattle.rules.proofs.Kept.{fresh-by, virtual-by, good-pair, wanted, wired-as}
 use Rattle.rules.proofs.Follows.{unwired, unwire, attachedAs, told, Follows, member?, quiet-nothing, quiet-names, quiet-attach, quiet-virtual, quiet-value, quiet-disconnect, quiet-connect, quiet-detach, ended, tells-format, tells-answer, tells-ask, core-change, core-wired, core-remove, core-insert}
@@ -116,15 +116,8 @@ follows-detach t s h f p (joined v) e =
     let core : (q : ℕ) → mapFacts unwire (viewOfTable (remove p u) q) ≡ cond (eqb p q) none (cond (eqb v q) none (mapFacts unwire (viewOfTable t q))) =
     λ q. core-remove p u q ∙ ap (λ (x : Option Facts). cond (eqb p q) none x) (core-dissolve t s v (n .a) (n .b) (n .pair) q)
     in
-    let m : member? (sinceAttached v h) p ≡ true = member-is t h f v p ∙ ap (pairIn p) (n .pair) ∙ named (n .a) (n .b) (n .member) in
+    let m : member? (sinceAttached v h) p ≡ true = member-is t h f v p ∙ ap (pairIn p) (n .pair) ∙ or-either (n .a) (n .b) p (n .member) in
     rw known-as (both-gone t s h f p (remove p u) v e core m)
-  where
-    last : (x y : Bool) → y ≡ true → (x || y) ≡ true
-    last true y k = refl
-    last false y k = k
-    named : (a b : ℕ) → (a ≡ p) ⊎ (b ≡ p) → (eqb a p || eqb b p) ≡ true
-    named a b (inl i) = rw (eq-eqb a p i)
-    named a b (inr i) = last (eqb a p) (eqb b p) (eq-eqb b p i)
 follows-detach t s h f p (virtual a b) e =
     gone t s h f p (dissolve p a b t) (core-dissolve t s p a b e) (λ (q : ℕ) (k : wiredIn t p ≡ some (joined q)). joined-virtual q a b (sym k ∙ e))
 
