@@ -172,6 +172,7 @@ tells-ask q p s (since a l) = go (eqb p q) refl
       asked = orElse (cond b (some s) none) (latestAsked q l);
       state = stateBy (orElse (cond b (some s) none) (latestAsked q l)) (latestAnswered q (newerThan (cond b (some s) none) (ask p s) (afterAsking q l)));
     })
+
     go : (b : Bool) → eqb p q ≡ b → told q (since a (ask p s ∷ l)) ≡ cond b (mapFacts (withAsk s) (told q (since a l))) (told q (since a l))
     go true e = ap as-asked e
     go false e = ap as-asked e

@@ -65,6 +65,7 @@ view-remove port (some r ∷ t) q =
     twice : (b : Bool) (x : Facts) (y : Option Facts) → cond b none y ≡ cond b none (cond b (some x) y)
     twice true x y = refl
     twice false x y = refl
+
     other : (b : Bool) → (eqb (r .port) q ≡ true) ⊎ (eqb (r .port) q ≡ false) → eqb (r .port) port ≡ false
         → cond (eqb (r .port) q) (some (r .facts)) (cond (eqb port q) none (viewOfTable t q)) ≡ cond (eqb port q) none (cond (eqb (r .port) q) (some (r .facts)) (viewOfTable t q))
     other b (inl k) stays =

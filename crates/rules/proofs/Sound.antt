@@ -76,6 +76,17 @@ pair-with x a b p e m =
 both : (a b : Bool) → a ≡ true → b ≡ true → (a && b) ≡ true
 both a b x y = rw (x, y)
 
+-- a port of the later places is found past a record
+pub found-later : (r : Record) (u : Table) → known (viewOfTable u (r .port)) ≡ false → (p : ℕ) (f : Facts) → viewOfTable u p ≡ some f → viewOfTable (some r ∷ u) p ≡ some f
+found-later r u fresh p f e =
+    rw
+    (ne-eqb (r .port) p
+    (λ (k : r .port ≡ p).
+    let yes : known (viewOfTable u (r .port)) ≡ true = ap (λ (q : ℕ). known (viewOfTable u q)) k ∙ ap known e in
+    let z : _≡_ {A = ℕ} 0 1 = cc fresh in
+    absurd (omega arith)))
+    e
+
 module _ (t : Table) (s : Sound t) where
   small-port : (q : ℕ) (y : Wiring) → wiredIn t q ≡ some y → ltb q 256 ≡ true
   small-port q y e =
@@ -103,17 +114,7 @@ module _ (t : Table) (s : Sound t) where
   places-fit (none ∷ u) d found = places-fit u d found
   places-fit (some r ∷ u) d found =
       let here : viewOfTable t (r .port) ≡ some (r .facts) = found (r .port) (r .facts) (rw (eq-eqb (r .port) (r .port) refl)) in
-      rw (record-fits r here, d .0) (places-fit u (d .1) (λ p f e. found p f (past p f e)))
-    where
-      past : (p : ℕ) (f : Facts) → viewOfTable u p ≡ some f → viewOfTable (some r ∷ u) p ≡ some f
-      past p f e =
-          rw
-          (ne-eqb (r .port) p
-          (λ (k : r .port ≡ p).
-          let yes : known (viewOfTable u (r .port)) ≡ true = ap (λ (q : ℕ). known (viewOfTable u q)) k ∙ ap known e in
-          let z : _≡_ {A = ℕ} 0 1 = cc (d .0) in
-          absurd (omega arith)))
-          e
+      rw (record-fits r here, d .0) (places-fit u (d .1) (λ p f e. found p f (found-later r u (d .0) p f e)))
 
   pub sound-formed : wellFormed t ≡ true
   unfolding wellFormed
