@@ -17,11 +17,11 @@ use Rattle.protocol.specs.Decode.{Answer, accepted, decode, openOf}
 use Rattle.protocol.specs.Decode as Decode
 use Rattle.protocol.specs.Answer.{messageOf}
 use Rattle.rules.specs.Effect.{Effect, effectOf}
-use Rattle.rules.specs.Facts.{Wiring, joined, virtual, Facts, View}
+use Rattle.rules.specs.Facts.{Wiring, joined, virtual, Facts, View, Modes}
 use Rattle.rules.specs.Judge.{judge}
 use Rattle.rules.specs.Ranges.{effectFits}
-use Rattle.rules.specs.History.{History, sinceAttached, viewOfHistory, presentBelow, fullHistory}
-use Rattle.rules.specs.Table.{Record, Table, viewOfTable, fullTable, apply}
+use Rattle.rules.specs.History.{History, sinceAttached, viewOfHistory, modesOfHistory, presentBelow, fullHistory}
+use Rattle.rules.specs.Table.{Record, Table, viewOfTable, modesOfTable, fullTable, apply}
 use Rattle.rules.specs.Cells.{cellsOf, tableAt, sound, emptyCells}
 use Rattle.rules.specs.Offer.{Entry, Verdict, refused, accepts, verdict, judgeAnswer, judgeEntry, handEntry, offerCells, appliedTo, cellsAfter, handCells, remember, heard}
 use Rattle.rules.specs.Value as Value
@@ -35,18 +35,18 @@ use Rattle.rules.proofs.Ranges.{effect-fits}
 use Rattle.rules.proofs.Kept.{keeps}
 use Rattle.rules.proofs.Follows.{unwire, Follows}
 use Rattle.rules.proofs.Step.{follows-step}
-use Rattle.rules.proofs.Views.{same-view}
+use Rattle.rules.proofs.Views.{same-view, same-mode}
 use Rattle.rules.proofs.Count.{same-full}
 
 -- ---- a message that was accepted
 
-record Accepted (view : View) (full : Bool) (e : Entry) (effect : Effect) : Type 0 where
+record Accepted (view : View) (modes : Modes) (full : Bool) (e : Entry) (effect : Effect) : Type 0 where
   form : Form
   values : List Value
   read : decode (e .way) (e .bytes) ≡ accepted form values
   is : effect ≡ effectOf (messageOf form values)
   count : ℕ
-  good : judge view full effect count ≡ 0
+  good : judge view modes full effect count ≡ 0
 
 verdict-accepts : (n : ℕ) (x y : Effect) → verdict n x ≡ accepts y → (n ≡ 0) × (x ≡ y)
 verdict-accepts n x y e =
@@ -55,17 +55,17 @@ verdict-accepts n x y e =
     (λ (k : eqb n 0 ≡ false). let a : refused n 0 ≡ accepts y = rw k at e in let z : _≡_ {A = ℕ} 0 1 = cc in absurd (omega arith))
     (which (eqb n 0))
 
-was-accepted : (view : View) (full : Bool) (e : Entry) (effect : Effect) → judgeEntry view full e ≡ accepts effect → Accepted view full e effect
+was-accepted : (view : View) (modes : Modes) (full : Bool) (e : Entry) (effect : Effect) → judgeEntry view modes full e ≡ accepts effect → Accepted view modes full e effect
 unfolding judgeEntry
-was-accepted view full e effect k = go (decode (e .way) (e .bytes)) refl k
+was-accepted view modes full e effect k = go (decode (e .way) (e .bytes)) refl k
   where
-    go : (a : Answer) → decode (e .way) (e .bytes) ≡ a → judgeAnswer view full (e .bytes) a ≡ accepts effect → Accepted view full e effect
+    go : (a : Answer) → decode (e .way) (e .bytes) ≡ a → judgeAnswer view modes full (e .bytes) a ≡ accepts effect → Accepted view modes full e effect
     go (Decode.refused n place) r j = let z : _≡_ {A = ℕ} 0 1 = cc in absurd (omega arith)
     go (accepted f vs) r j =
         let x : Effect = effectOf (messageOf f vs) in
         let count : ℕ = length (openOf (e .bytes) (accepted f vs)) in
-        let v = verdict-accepts (judge view full x count) x effect j in
-        record { form = f; values = vs; read = r; is = sym (v .1); count = count; good = ap (λ (y : Effect). judge view full y count) (sym (v .1)) ∙ v .0 }
+        let v = verdict-accepts (judge view modes full x count) x effect j in
+        record { form = f; values = vs; read = r; is = sym (v .1); count = count; good = ap (λ (y : Effect). judge view modes full y count) (sym (v .1)) ∙ v .0 }
 
 -- ---- what holds throughout: the cells are those of a sound table that follows the accepted messages
 
@@ -96,24 +96,30 @@ module _ (t : Table) (s : Sound t) where
 views : (t : Table) (h : History) → Sound t → Follows t h → viewOfTable t ≡ viewOfHistory h
 views t h s f = λ i q. same-view t s h f q i
 
+all-modes : (t : Table) (h : History) → Sound t → Follows t h → modesOfTable t ≡ modesOfHistory h
+all-modes t h s f = λ i q. same-mode t s h f q i
+
 fulls : (t : Table) (h : History) → Sound t → Follows t h → fullTable t ≡ fullHistory h
 unfolding fullHistory
 fulls t h s f = same-full t s ∙ ap (λ (v : View). leb 16 (presentBelow 256 v)) (views t h s f)
 
 -- judging and handing out look through the view alone
 module _ (t : Table) (h : History) (s : Sound t) (f : Follows t h) where
-  table-judges : (e : Entry) → offerCells (cellsOf t) e ≡ judgeEntry (viewOfTable t) (fullTable t) e
+  table-judges : (e : Entry) → offerCells (cellsOf t) e ≡ judgeEntry (viewOfTable t) (modesOfTable t) (fullTable t) e
   unfolding offerCells
   table-judges e = rw (is-sound t s, back t s)
 
-  same-verdict : (e : Entry) → judgeEntry (viewOfTable t) (fullTable t) e ≡ judgeEntry (viewOfHistory h) (fullHistory h) e
-  same-verdict e = ap (λ (v : View). judgeEntry v (fullTable t) e) (views t h s f) ∙ ap (λ (b : Bool). judgeEntry (viewOfHistory h) b e) (fulls t h s f)
+  same-verdict : (e : Entry) → judgeEntry (viewOfTable t) (modesOfTable t) (fullTable t) e ≡ judgeEntry (viewOfHistory h) (modesOfHistory h) (fullHistory h) e
+  same-verdict e =
+      ap (λ (v : View). judgeEntry v (modesOfTable t) (fullTable t) e) (views t h s f) ∙ ap (λ (m : Modes). judgeEntry (viewOfHistory h) m (fullTable t) e) (all-modes t h s f)
+      ∙ ap (λ (b : Bool). judgeEntry (viewOfHistory h) (modesOfHistory h) b e) (fulls t h s f)
 
-  same-dataset : (e : Entry) (n : ℕ) → handCells (cellsOf t) e n ≡ handEntry (viewOfHistory h) (fullHistory h) e n
+  same-dataset : (e : Entry) (n : ℕ) → handCells (cellsOf t) e n ≡ handEntry (viewOfHistory h) (modesOfHistory h) (fullHistory h) e n
   unfolding handCells
   same-dataset e n =
       rw (is-sound t s, back t s)
-      (ap (λ (v : View). handEntry v (fullTable t) e n) (views t h s f) ∙ ap (λ (b : Bool). handEntry (viewOfHistory h) b e n) (fulls t h s f))
+      (ap (λ (v : View). handEntry v (modesOfTable t) (fullTable t) e n) (views t h s f) ∙ ap (λ (m : Modes). handEntry (viewOfHistory h) m (fullTable t) e n) (all-modes t h s f)
+      ∙ ap (λ (b : Bool). handEntry (viewOfHistory h) (modesOfHistory h) b e n) (fulls t h s f))
 
 -- ---- through the list
 
@@ -123,18 +129,19 @@ agrees cells past k =
     let h : History = heard past in
     record {
       ports = λ p. ap (λ (c : List ℕ). viewOfTable (tableAt c) p) (k .cells-are) ∙ ap (λ (u : Table). viewOfTable u p) (back t (k .good)) ∙ same-view t (k .good) h (k .follows) p;
+      modes = λ p. ap (λ (c : List ℕ). modesOfTable (tableAt c) p) (k .cells-are) ∙ ap (λ (u : Table). modesOfTable u p) (back t (k .good)) ∙ same-mode t (k .good) h (k .follows) p;
       datasets = λ e n. ap (λ (c : List ℕ). handCells c e n) (k .cells-are) ∙ same-dataset t h (k .good) (k .follows) e n;
     }
 
-answers : (cells : List ℕ) (h : History) → Holds cells h → (e : Entry) → offerCells cells e ≡ judgeEntry (viewOfHistory h) (fullHistory h) e
+answers : (cells : List ℕ) (h : History) → Holds cells h → (e : Entry) → offerCells cells e ≡ judgeEntry (viewOfHistory h) (modesOfHistory h) (fullHistory h) e
 answers cells h k e = ap (λ (c : List ℕ). offerCells c e) (k .cells-are) ∙ table-judges (k .table) h (k .good) (k .follows) e ∙ same-verdict (k .table) h (k .good) (k .follows) e
 
 -- an answer changes the cells and the history alike
-next : (cells : List ℕ) (h : History) → Holds cells h → (e : Entry) → Bytes (e .bytes) → (v : Verdict) → judgeEntry (viewOfHistory h) (fullHistory h) e ≡ v → Holds (appliedTo cells v) (remember h v)
+next : (cells : List ℕ) (h : History) → Holds cells h → (e : Entry) → Bytes (e .bytes) → (v : Verdict) → judgeEntry (viewOfHistory h) (modesOfHistory h) (fullHistory h) e ≡ v → Holds (appliedTo cells v) (remember h v)
 next cells h k e b (refused n place) j = k
 next cells h k e b (accepts x) j =
     let t : Table = k .table in
-    let a = was-accepted (viewOfTable t) (fullTable t) e x (same-verdict t h (k .good) (k .follows) e ∙ j) in
+    let a = was-accepted (viewOfTable t) (modesOfTable t) (fullTable t) e x (same-verdict t h (k .good) (k .follows) e ∙ j) in
     let fits : effectFits x ≡ true = ap effectFits (a .is) ∙ effect-fits (e .way) (e .bytes) b (a .form) (a .values) (a .read) in
     record {
       table = apply x t;
@@ -148,9 +155,9 @@ unfolding cellsAfter
 through cells past [] b k = agrees cells past k
 through cells past (e ∷ rest) b k =
     let h : History = heard past in
-    let same : offerCells cells e ≡ judgeEntry (viewOfHistory h) (fullHistory h) e = answers cells h k e in
+    let same : offerCells cells e ≡ judgeEntry (viewOfHistory h) (modesOfHistory h) (fullHistory h) e = answers cells h k e in
     let after : Holds (appliedTo cells (offerCells cells e)) (heard (e ∷ past)) =
-    rw same (next cells h k e (b .0) (judgeEntry (viewOfHistory h) (fullHistory h) e) refl)
+    rw same (next cells h k e (b .0) (judgeEntry (viewOfHistory h) (modesOfHistory h) (fullHistory h) e) refl)
     in
     (agrees cells past k, same, through (appliedTo cells (offerCells cells e)) (e ∷ past) rest (b .1) after)
 

@@ -13,7 +13,7 @@ use Rattle.rules.specs.Effect.{Effect, nothing, names, attach, attachVir
 use Rattle.rules.specs.Facts.{Setup, sameSetup, Format, Wiring, unjoined, joined, virtual, isUnjoined, Facts, View, known}
 use Rattle.rules.specs.Judge.{unjoinedHere, goodPair, present, wants, judge}
 use Rattle.rules.specs.Ranges.{effectFits}
-use Rattle.rules.specs.Table.{Record, Table, fullTable, viewOfTable, insert, change, remove, freed, wired, wiredAs, dissolve, dissolveBy, detachBy, bare, newRecord, withFormat, withAnswer, answeredState, withAsk, apply}
+use Rattle.rules.specs.Table.{Record, Table, fullTable, viewOfTable, modesOfTable, insert, change, remove, freed, wired, wiredAs, dissolve, dissolveBy, detachBy, bare, newRecord, withFormat, withAnswer, answeredState, withAsk, apply}
 use Rattle.rules.specs.WellFormed.{setupFits, formatFits, formatsFit, stateAfter, stateFits, factsFit}
 use Rattle.rules.proofs.CellsRecord.{five-passed}
 use Rattle.rules.proofs.Lookup.{view-freed}
@@ -172,7 +172,7 @@ detach-known t s p (some f) e k = sound-detach t s p (f .wiring) (ap wiring? e)
 
 -- ---- every message
 
-pub keeps : (e : Effect) (t : Table) (count : ℕ) → Sound t → effectFits e ≡ true → judge (viewOfTable t) (fullTable t) e count ≡ 0 → Sound (apply e t)
+pub keeps : (e : Effect) (t : Table) (count : ℕ) → Sound t → effectFits e ≡ true → judge (viewOfTable t) (modesOfTable t) (fullTable t) e count ≡ 0 → Sound (apply e t)
 unfolding judge apply
 keeps nothing t n s fits ok = s
 keeps (names p) t n s fits ok = s

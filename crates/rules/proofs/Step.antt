@@ -13,7 +13,7 @@ use Rattle.rules.specs.Effect.{Effect, nothing, names, attach, attachVir
 use Rattle.rules.specs.Facts.{Wiring, unjoined, joined, virtual, Facts, View, known}
 use Rattle.rules.specs.Judge.{goodPair, judge}
 use Rattle.rules.specs.History.{History, Attachment, plain, pair, Since, absent, since, hasMember, later, afterDetach, sinceAttached}
-use Rattle.rules.specs.Table.{Record, Table, fullTable, viewOfTable, insert, change, remove, freed, wired, wiredAs, dissolve, dissolveBy, detachBy, bare, newRecord, withFormat, withAnswer, withAsk, apply}
+use Rattle.rules.specs.Table.{Record, Table, fullTable, viewOfTable, modesOfTable, insert, change, remove, freed, wired, wiredAs, dissolve, dissolveBy, detachBy, bare, newRecord, withFormat, withAnswer, withAsk, apply}
 use Rattle.rules.specs.WellFormed.{pairWith}
 use Rattle.rules.proofs.Lookup.{mapFacts, after, view-change, view-freed}
 use Rattle.rules.proofs.Pairs.{Wired, Pairs, Named, put, put-other, joined-same, unjoined-joined, joined-virtual}
@@ -160,7 +160,7 @@ follows-virtual t h f p d a b room fresh one two ab q =
 
 -- ---- every message
 
-pub follows-step : (e : Effect) (t : Table) (h : History) (count : ℕ) → Sound t → Follows t h → judge (viewOfTable t) (fullTable t) e count ≡ 0 → Follows (apply e t) (e ∷ h)
+pub follows-step : (e : Effect) (t : Table) (h : History) (count : ℕ) → Sound t → Follows t h → judge (viewOfTable t) (modesOfTable t) (fullTable t) e count ≡ 0 → Follows (apply e t) (e ∷ h)
 unfolding judge apply sinceAttached
 follows-step nothing t h n s f ok = λ q. f q ∙ sym (quiet-nothing q (sinceAttached q h))
 follows-step (names p) t h n s f ok = λ q. f q ∙ sym (quiet-names q p (sinceAttached q h))

@@ -7,8 +7,8 @@ use mathlib.Core.Logic.{_⊎_, inl, inr, ⊎-elim}
 use native.Mathlib.Omega.{arith}
 use Rattle.protocol.proofs.Tests.{which}
 use Rattle.rules.specs.Facts.{Wiring, unjoined, joined, virtual, Facts}
-use Rattle.rules.specs.History.{History, Attachment, plain, pair, Since, absent, since, sinceAttached, names?, partnerBelow, joinedBy, wiringOf, factsOf, viewOfHistory}
-use Rattle.rules.specs.Table.{Table, viewOfTable, wired}
+use Rattle.rules.specs.History.{History, Attachment, plain, pair, Since, absent, since, sinceAttached, names?, partnerBelow, joinedBy, wiringOf, factsOf, viewOfHistory, modeSince, modesOfHistory}
+use Rattle.rules.specs.Table.{Table, viewOfTable, modeBy, modesOfTable, wired}
 use Rattle.rules.proofs.Lookup.{mapFacts}
 use Rattle.rules.proofs.Pairs.{joined-same, unjoined-joined}
 use Rattle.rules.proofs.Sound.{wiring?, wiredIn, Sound, Seen, seen, or-either}
@@ -85,3 +85,14 @@ module _ (t : Table) (s : Sound t) (h : History) (f : Follows t h) (q : ℕ) whe
   pub same-view : viewOfTable t q ≡ viewOfHistory h q
   unfolding viewOfHistory
   same-view = same-facts (viewOfTable t q) (sinceAttached q h) refl (f q)
+
+  -- and so of its mode
+  same-mode-of : (x : Option Facts) (c : Since) → mapFacts unwire x ≡ told q c → modeBy x ≡ modeSince q c
+  same-mode-of none absent k = refl
+  same-mode-of none (since a l) k = let z : _≡_ {A = ℕ} 0 1 = cc in absurd (omega arith)
+  same-mode-of (some g) absent k = let z : _≡_ {A = ℕ} 0 1 = cc in absurd (omega arith)
+  same-mode-of (some g) (since a l) k = ap modeBy k
+
+  pub same-mode : modesOfTable t q ≡ modesOfHistory h q
+  unfolding modesOfHistory
+  same-mode = same-mode-of (viewOfTable t q) (sinceAttached q h) (f q)

@@ -5,11 +5,12 @@ use mathlib.Core.Path.{_≡_}
 use mathlib.Core.List.{List, [], _∷_}
 use Rattle.protocol.specs.Number.{Bytes}
 use Rattle.rules.specs.Cells.{emptyCells}
-use Rattle.rules.specs.Offer.{Entry, offerCells, cellsAfter, handCells, viewOfCells, offerPast, handPast, viewOfPast}
+use Rattle.rules.specs.Offer.{Entry, offerCells, cellsAfter, handCells, viewOfCells, modesOfCells, offerPast, handPast, viewOfPast, modesOfPast}
 
 -- now: what is known of every port, and every dataset of every message that is tried
 pub record Agree (cells : List ℕ) (past : List Entry) : Type 0 where
   pub ports : (port : ℕ) → viewOfCells cells port ≡ viewOfPast past port
+  pub modes : (port : ℕ) → modesOfCells cells port ≡ modesOfPast past port
   pub datasets : (e : Entry) (number : ℕ) → handCells cells e number ≡ handPast past e number
 
 -- through a list from its start: agreement now, then on the next answer, then on the rest

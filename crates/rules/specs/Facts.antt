@@ -42,6 +42,14 @@ pub record Facts : Type 0 where
 abbrev pub View : Type 0
 View = ℕ → Option Facts
 
+-- a port's mode, by which its values are read; none where it has none yet
+abbrev pub Modes : Type 0
+Modes = ℕ → Option ℕ
+
+abbrev pub modeIn : Option Setup → Option ℕ
+modeIn none = none
+modeIn (some s) = some (s .mode)
+
 abbrev pub known : Option Facts → Bool
 known none = false
 known (some f) = true

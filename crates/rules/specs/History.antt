@@ -6,7 +6,7 @@ use mathlib.Core.List.{List, [], _∷_}
 use mathlib.Core.Option.{Option, none, some}
 use lib.Dec.{eqb, leb}
 use Rattle.rules.specs.Effect.{Effect, nothing, names, attach, attachVirtual, detach, setFormat, answer, ask, value, disconnect, connect, empty}
-use Rattle.rules.specs.Facts.{Setup, sameSetup, Format, Wiring, unjoined, joined, virtual, Facts, View, known}
+use Rattle.rules.specs.Facts.{Setup, sameSetup, Format, Wiring, unjoined, joined, virtual, Facts, View, Modes, modeIn, known}
 
 abbrev pub History : Type 0
 History = List Effect
@@ -163,6 +163,14 @@ factsOf port h (since a after) =
 
 unfoldable pub viewOfHistory : History → View
 viewOfHistory h port = factsOf port h (sinceAttached port h)
+
+-- the mode is the latest 47's since the attachment
+abbrev pub modeSince : ℕ → Since → Option ℕ
+modeSince port absent = none
+modeSince port (since a after) = modeIn (latestAnswered port after)
+
+unfoldable pub modesOfHistory : History → Modes
+modesOfHistory h port = modeSince port (sinceAttached port h)
 
 -- how many ports below a number are present
 abbrev pub oneIf : Bool → ℕ

@@ -4,7 +4,7 @@ use mathlib.Core.Bool.{Bool, true, false, cond, not, _&&_}
 use mathlib.Core.Option.{Option, none, some}
 use lib.Dec.{eqb}
 use Rattle.rules.specs.Effect.{Effect, nothing, names, attach, attachVirtual, detach, setFormat, answer, ask, value, disconnect, connect, empty}
-use Rattle.rules.specs.Facts.{Setup, Format, Facts, View, known, isUnjoined, isVirtual}
+use Rattle.rules.specs.Facts.{Format, Facts, View, Modes, known, isUnjoined, isVirtual}
 
 -- bytes of a dataset, by kind: 1, 2, 4, 4
 abbrev pub widthOf : ℕ → ℕ
@@ -34,30 +34,30 @@ abbrev pub byFormat : Option Format → ℕ → ℕ
 byFormat none count = 15
 byFormat (some f) count = cond (eqb count (f .datasets * widthOf (f .kind))) 0 16
 
--- by the latest 47's mode: 14
-abbrev pub byMode : Option Setup → (ℕ → Option Format) → ℕ → ℕ
+-- by the port's mode: 14
+abbrev pub byMode : Option ℕ → (ℕ → Option Format) → ℕ → ℕ
 byMode none formats count = 14
-byMode (some s) formats count = byFormat (formats (s .mode)) count
+byMode (some mode) formats count = byFormat (formats mode) count
 
-abbrev pub judgeValue : Option Facts → ℕ → ℕ
-judgeValue none count = 10
-judgeValue (some f) count = byMode (f .answered) (f .formats) count
+abbrev pub judgeValue : Option Facts → Option ℕ → ℕ → ℕ
+judgeValue none mode count = 10
+judgeValue (some f) mode count = byMode mode (f .formats) count
 
 abbrev pub judgeDisconnect : Option Facts → ℕ
 judgeDisconnect none = 10
 judgeDisconnect (some f) = cond (isVirtual (f .wiring)) 0 12
 
 -- a message with so many open bytes; `full` where sixteen ports are present
-unfoldable pub judge : View → Bool → Effect → ℕ → ℕ
-judge view full nothing count = 0
-judge view full (names port) count = wants view port
-judge view full (attach port device) count = cond (present view port) 11 (room full)
-judge view full (attachVirtual port device a b) count = cond (present view port) 11 (cond (goodPair view a b) (room full) 12)
-judge view full (detach port) count = wants view port
-judge view full (setFormat port mode f) count = wants view port
-judge view full (answer port s) count = wants view port
-judge view full (ask port s) count = wants view port
-judge view full (value port) count = judgeValue (view port) count
-judge view full (disconnect port) count = judgeDisconnect (view port)
-judge view full (connect a b) count = cond (goodPair view a b) 0 12
-judge view full empty count = 0
+unfoldable pub judge : View → Modes → Bool → Effect → ℕ → ℕ
+judge view modes full nothing count = 0
+judge view modes full (names port) count = wants view port
+judge view modes full (attach port device) count = cond (present view port) 11 (room full)
+judge view modes full (attachVirtual port device a b) count = cond (present view port) 11 (cond (goodPair view a b) (room full) 12)
+judge view modes full (detach port) count = wants view port
+judge view modes full (setFormat port mode f) count = wants view port
+judge view modes full (answer port s) count = wants view port
+judge view modes full (ask port s) count = wants view port
+judge view modes full (value port) count = judgeValue (view port) (modes port) count
+judge view modes full (disconnect port) count = judgeDisconnect (view port)
+judge view modes full (connect a b) count = cond (goodPair view a b) 0 12
+judge view modes full empty count = 0

@@ -10,12 +10,12 @@ use Rattle.protocol.specs.Decode as Decode
 use Rattle.protocol.specs.Answer.{messageOf}
 use Rattle.protocol.specs.declared.Way.{Way}
 use Rattle.rules.specs.Effect.{Effect, effectOf}
-use Rattle.rules.specs.Facts.{Facts, View}
+use Rattle.rules.specs.Facts.{Facts, View, Modes}
 use Rattle.rules.specs.Judge.{judge}
 use Rattle.rules.specs.Value.{Handed, hand}
 use Rattle.rules.specs.Value as Value
-use Rattle.rules.specs.History.{History, viewOfHistory, fullHistory}
-use Rattle.rules.specs.Table.{Table, viewOfTable, fullTable, apply}
+use Rattle.rules.specs.History.{History, viewOfHistory, modesOfHistory, fullHistory}
+use Rattle.rules.specs.Table.{Table, viewOfTable, modesOfTable, fullTable, apply}
 use Rattle.rules.specs.Cells.{cellsOf, tableAt, sound}
 
 -- a message: any bytes, with their direction
@@ -32,21 +32,21 @@ abbrev pub verdict : ℕ → Effect → Verdict
 verdict n e = cond (eqb n 0) (accepts e) (refused n 0)
 
 -- reading comes first, then 10 to 16
-abbrev pub judgeAnswer : View → Bool → List ℕ → Answer → Verdict
-judgeAnswer view full s (Decode.refused n place) = refused n place
-judgeAnswer view full s (accepted f vs) =
+abbrev pub judgeAnswer : View → Modes → Bool → List ℕ → Answer → Verdict
+judgeAnswer view modes full s (Decode.refused n place) = refused n place
+judgeAnswer view modes full s (accepted f vs) =
     let e = effectOf (messageOf f vs) in
-    verdict (judge view full e (length (openOf s (accepted f vs)))) e
+    verdict (judge view modes full e (length (openOf s (accepted f vs)))) e
 
-unfoldable pub judgeEntry : View → Bool → Entry → Verdict
-judgeEntry view full e = judgeAnswer view full (e .bytes) (decode (e .way) (e .bytes))
+unfoldable pub judgeEntry : View → Modes → Bool → Entry → Verdict
+judgeEntry view modes full e = judgeAnswer view modes full (e .bytes) (decode (e .way) (e .bytes))
 
-abbrev pub handAnswer : View → Bool → List ℕ → ℕ → Answer → Handed
-handAnswer view full s number (Decode.refused n place) = Value.refused n place
-handAnswer view full s number (accepted f vs) = hand view full (effectOf (messageOf f vs)) (openOf s (accepted f vs)) number
+abbrev pub handAnswer : View → Modes → Bool → List ℕ → ℕ → Answer → Handed
+handAnswer view modes full s number (Decode.refused n place) = Value.refused n place
+handAnswer view modes full s number (accepted f vs) = hand view modes full (effectOf (messageOf f vs)) (openOf s (accepted f vs)) number
 
-unfoldable pub handEntry : View → Bool → Entry → ℕ → Handed
-handEntry view full e number = handAnswer view full (e .bytes) number (decode (e .way) (e .bytes))
+unfoldable pub handEntry : View → Modes → Bool → Entry → ℕ → Handed
+handEntry view modes full e number = handAnswer view modes full (e .bytes) number (decode (e .way) (e .bytes))
 
 -- ---- by the cells of a table
 
@@ -54,7 +54,7 @@ handEntry view full e number = handAnswer view full (e .bytes) number (decode (e
 unfoldable pub offerCells : List ℕ → Entry → Verdict
 offerCells cells e =
     let t = tableAt cells in
-    cond (sound cells) (judgeEntry (viewOfTable t) (fullTable t) e) (refused 9 0)
+    cond (sound cells) (judgeEntry (viewOfTable t) (modesOfTable t) (fullTable t) e) (refused 9 0)
 
 -- the lent cells afterwards: changed by an accepted message only
 abbrev pub appliedTo : List ℕ → Verdict → List ℕ
@@ -67,10 +67,13 @@ cellsAfter cells e = appliedTo cells (offerCells cells e)
 unfoldable pub handCells : List ℕ → Entry → ℕ → Handed
 handCells cells e number =
     let t = tableAt cells in
-    cond (sound cells) (handEntry (viewOfTable t) (fullTable t) e number) (Value.refused 9 0)
+    cond (sound cells) (handEntry (viewOfTable t) (modesOfTable t) (fullTable t) e number) (Value.refused 9 0)
 
 abbrev pub viewOfCells : List ℕ → View
 viewOfCells cells = viewOfTable (tableAt cells)
+
+abbrev pub modesOfCells : List ℕ → Modes
+modesOfCells cells = modesOfTable (tableAt cells)
 
 -- ---- without a table, by the earlier messages, the latest first
 
@@ -81,13 +84,16 @@ remember h (accepts e) = e ∷ h
 -- the accepted ones, each judged by those before it
 abbrev pub heard : List Entry → History
 heard [] = []
-heard (e ∷ past) = remember (heard past) (judgeEntry (viewOfHistory (heard past)) (fullHistory (heard past)) e)
+heard (e ∷ past) = remember (heard past) (judgeEntry (viewOfHistory (heard past)) (modesOfHistory (heard past)) (fullHistory (heard past)) e)
 
 abbrev pub offerPast : List Entry → Entry → Verdict
-offerPast past e = judgeEntry (viewOfHistory (heard past)) (fullHistory (heard past)) e
+offerPast past e = judgeEntry (viewOfHistory (heard past)) (modesOfHistory (heard past)) (fullHistory (heard past)) e
 
 abbrev pub handPast : List Entry → Entry → ℕ → Handed
-handPast past e number = handEntry (viewOfHistory (heard past)) (fullHistory (heard past)) e number
+handPast past e number = handEntry (viewOfHistory (heard past)) (modesOfHistory (heard past)) (fullHistory (heard past)) e number
 
 abbrev pub viewOfPast : List Entry → View
 viewOfPast past = viewOfHistory (heard past)
+
+abbrev pub modesOfPast : List Entry → Modes
+modesOfPast past = modesOfHistory (heard past)

@@ -5,7 +5,7 @@ use mathlib.Core.List.{List, [], _∷_, map}
 use mathlib.Core.Option.{Option, none, some}
 use lib.Dec.{eqb}
 use Rattle.rules.specs.Effect.{Effect, nothing, names, attach, attachVirtual, detach, setFormat, answer, ask, value, disconnect, connect, empty}
-use Rattle.rules.specs.Facts.{Setup, sameSetup, Format, Wiring, unjoined, joined, virtual, Facts, View}
+use Rattle.rules.specs.Facts.{Setup, sameSetup, Format, Wiring, unjoined, joined, virtual, Facts, View, Modes, modeIn}
 
 pub record Record : Type 0 where
   pub port : ℕ
@@ -29,6 +29,14 @@ abbrev pub viewOfTable : Table → View
 viewOfTable [] port = none
 viewOfTable (none ∷ t) port = viewOfTable t port
 viewOfTable (some r ∷ t) port = cond (eqb (r .port) port) (some (r .facts)) (viewOfTable t port)
+
+-- a value takes the latest 47's mode
+abbrev pub modeBy : Option Facts → Option ℕ
+modeBy none = none
+modeBy (some f) = modeIn (f .answered)
+
+abbrev pub modesOfTable : Table → Modes
+modesOfTable t port = modeBy (viewOfTable t port)
 
 -- the three changes of which every other is made: a new record takes the lowest free place; the facts of a port change; a
 -- port's place is freed
