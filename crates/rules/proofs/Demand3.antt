@@ -40,13 +40,13 @@ use Rattle.rules.proofs.Count.{same-full}
 
 -- ---- a message that was accepted
 
-record Accepted (view : View) (modes : Modes) (full : Bool) (e : Entry) (effect : Effect) : Type 0 where
-  form : Form
-  values : List Value
-  read : decode (e .way) (e .bytes) ≡ accepted form values
-  is : effect ≡ effectOf (messageOf form values)
-  count : ℕ
-  good : judge view modes full effect count ≡ 0
+pub record Accepted (view : View) (modes : Modes) (full : Bool) (e : Entry) (effect : Effect) : Type 0 where
+  pub form : Form
+  pub values : List Value
+  pub read : decode (e .way) (e .bytes) ≡ accepted form values
+  pub is : effect ≡ effectOf (messageOf form values)
+  pub count : ℕ
+  pub good : judge view modes full effect count ≡ 0
 
 verdict-accepts : (n : ℕ) (x y : Effect) → verdict n x ≡ accepts y → (n ≡ 0) × (x ≡ y)
 verdict-accepts n x y e =
@@ -55,7 +55,7 @@ verdict-accepts n x y e =
     (λ (k : eqb n 0 ≡ false). let a : refused n 0 ≡ accepts y = rw k at e in let z : _≡_ {A = ℕ} 0 1 = cc in absurd (omega arith))
     (which (eqb n 0))
 
-was-accepted : (view : View) (modes : Modes) (full : Bool) (e : Entry) (effect : Effect) → judgeEntry view modes full e ≡ accepts effect → Accepted view modes full e effect
+pub was-accepted : (view : View) (modes : Modes) (full : Bool) (e : Entry) (effect : Effect) → judgeEntry view modes full e ≡ accepts effect → Accepted view modes full e effect
 unfolding judgeEntry
 was-accepted view modes full e effect k = go (decode (e .way) (e .bytes)) refl k
   where
@@ -89,7 +89,7 @@ module _ (t : Table) (s : Sound t) where
   back : tableAt (cellsOf t) ≡ t
   back = table-back t (s .loose .size) high (sound-formed t s)
 
-  is-sound : sound (cellsOf t) ≡ true
+  pub is-sound : sound (cellsOf t) ≡ true
   is-sound = sound-cells t (s .loose .size) high (sound-formed t s)
 
 -- the two views, as functions of the port

@@ -122,7 +122,7 @@ pub record Good (t : Table) (a b : ℕ) : Type 0 where
   pub two : wiredIn t b ≡ some unjoined
   pub apart : a ≡ b → ⊥
 
-not-same : (b : Bool) → not b ≡ true → b ≡ false
+pub not-same : (b : Bool) → not b ≡ true → b ≡ false
 not-same true e = let z : _≡_ {A = ℕ} 0 1 = cc in absurd (omega arith)
 not-same false e = refl
 

@@ -46,7 +46,7 @@ core-pair p (some f) = go (f .wiring)
 pub member-is : (t : Table) (h : History) → Follows t h → (q p : ℕ) → member? (sinceAttached q h) p ≡ pairIn p (wiredIn t q)
 member-is t h f q p = told-member q p (sinceAttached q h) ∙ sym (ap (λ (x : Option Facts). pairIn p (wiring? x)) (f q)) ∙ core-pair p (viewOfTable t q)
 
-either-is : (a b p : ℕ) → (eqb a p || eqb b p) ≡ true → (a ≡ p) ⊎ (b ≡ p)
+pub either-is : (a b p : ℕ) → (eqb a p || eqb b p) ≡ true → (a ≡ p) ⊎ (b ≡ p)
 either-is a b p e =
     ⊎-elim (λ (k : eqb a p ≡ true). inl (eqb-true a p k))
     (λ (k : eqb a p ≡ false). inr (eqb-true b p (rw k at e)))

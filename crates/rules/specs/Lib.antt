@@ -9,3 +9,4 @@ pub mod Ranges
 pub mod Cells
 pub mod Offer
 pub mod Demand3
+pub mod Laws

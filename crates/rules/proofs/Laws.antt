@@ -1,0 +1,57 @@
+-- The laws of the table that come with demand 3.
+use Prim.Native.Nat.{ℕ}
+use mathlib.Core.Path.{_≡_, refl, sym, _∙_, ap}
+use mathlib.Core.Bool.{Bool, true, false, cond}
+use mathlib.Core.List.{List, [], _∷_, _++_}
+use mathlib.Core.Option.{Option, none, some}
+use mathlib.Core.Logic.{⊎-elim}
+use native.Mathlib.Omega.{arith}
+use borrow.Author.Tests.{eq-eqb}
+use lib.Dec.{eqb}
+use Rattle.protocol.proofs.Tests.{which}
+use Rattle.protocol.specs.Number.{Bytes}
+use Rattle.rules.specs.Effect.{Effect}
+use Rattle.rules.specs.Ranges.{effectFits}
+use Rattle.rules.specs.Table.{Record, Table, viewOfTable, modesOfTable, fullTable, insert, remove, apply}
+use Rattle.rules.specs.Cells.{cellsOf, tableAt, sound}
+use Rattle.rules.specs.Offer.{Entry, Verdict, refused, accepts, judgeEntry, offerCells, appliedTo, cellsAfter}
+use Rattle.rules.specs.Laws.{EmptySound, StepKeepsSound, RefusedChangesNothing, FreedIsEmpty, LowestPlace}
+use Rattle.rules.proofs.Sound.{Sound}
+use Rattle.rules.proofs.Kept.{keeps}
+use Rattle.rules.proofs.Ranges.{effect-fits}
+use Rattle.rules.proofs.CellsSound as CellsSound
+use Rattle.rules.proofs.Formed.{formed-sound}
+use Rattle.rules.proofs.Demand3.{is-sound, Accepted, was-accepted}
+
+pub empty-sound : EmptySound
+empty-sound = CellsSound.empty-sound
+
+-- a sound slice of cells stands for a sound table
+pub table-sound : (cells : List ℕ) → sound cells ≡ true → Sound (tableAt cells)
+table-sound cells e =
+    let k = CellsSound.sound-is cells e in
+    formed-sound (tableAt cells) (k .2) (k .3) (k .1)
+
+pub step-keeps-sound : StepKeepsSound
+unfolding cellsAfter offerCells
+step-keeps-sound cells e b s = rw s (go (judgeEntry (viewOfTable (tableAt cells)) (modesOfTable (tableAt cells)) (fullTable (tableAt cells)) e) refl)
+  where
+    go : (v : Verdict) → judgeEntry (viewOfTable (tableAt cells)) (modesOfTable (tableAt cells)) (fullTable (tableAt cells)) e ≡ v → sound (appliedTo cells v) ≡ true
+    go (refused n place) k = s
+    go (accepts x) k =
+        let t : Table = tableAt cells in
+        let a = was-accepted (viewOfTable t) (modesOfTable t) (fullTable t) e x k in
+        let fits : effectFits x ≡ true = ap effectFits (a .is) ∙ effect-fits (e .way) (e .bytes) b (a .form) (a .values) (a .read) in
+        is-sound (apply x t) (keeps x t (a .count) (table-sound cells s) fits (a .good))
+
+pub refused-changes-nothing : RefusedChangesNothing
+unfolding cellsAfter
+refused-changes-nothing cells e n place k = ap (appliedTo cells) k
+
+pub freed-is-empty : FreedIsEmpty
+freed-is-empty port r t e = (ap (λ (b : Bool). cond b none (some r) ∷ remove port t) (eq-eqb (r .port) port e), refl)
+
+pub lowest-place : LowestPlace
+lowest-place new [] rest full = refl
+lowest-place new (none ∷ before) rest full = let z : _≡_ {A = ℕ} 0 1 = cc in absurd (omega arith)
+lowest-place new (some r ∷ before) rest full = ap (λ (t : Table). some r ∷ t) (lowest-place new before rest full)
