@@ -9,4 +9,5 @@ pub mod Ranges
 pub mod Cells
 pub mod Offer
 pub mod Demand3
+pub mod Examples
 pub mod Laws
