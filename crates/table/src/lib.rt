@@ -1,0 +1,2 @@
+// The port table of one hub, and values read by it.
+pub mod value;
