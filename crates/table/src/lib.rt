@@ -1,2 +1,3 @@
 // The port table of one hub, and values read by it.
+mod place;
 pub mod value;
