@@ -14,7 +14,7 @@ abbrev μ-loop : tie.MeasureT-loop
 μ-loop table port i₀ i = 16 - i
 
 loop-holds : tie.Need-loop-holds Inv-loop μ-loop
-loop-holds c = (omega arith, from-start (c .args .table .now) (c .args .port))
+loop-holds c = (omega arith, from-start (c .before .args .table .now) (c .before .args .port))
 
 is-at-requires : tie.Need-is-at-requires Inv-loop μ-loop
 is-at-requires c κs = (c .before .before .before .pre, c .loop-test .taken)
