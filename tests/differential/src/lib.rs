@@ -2,15 +2,13 @@
 //! read and to be written.
 
 mod cells;
-mod plausible;
 mod product;
-mod random;
 mod tally;
 mod writing;
 
 pub use cells::{cells, Cells, CELLS};
-pub use plausible::{known_types, plausible};
 pub use product::{castanetash_read, castanetash_write, read, write};
-pub use random::Random;
 pub use tally::Tally;
 pub use writing::{any_call, edges, near_call, outside, valid_calls, Call, WriteTally, NO_MESSAGE, OUTPUT};
+pub use yardstick::traffic::{known_types, plausible};
+pub use yardstick::Random;
