@@ -3,7 +3,7 @@ use super::damage::damage;
 use super::float::float;
 use super::plausible::plausible;
 use super::scene::{Scene, Sort};
-use crate::answer::{Port, Setup, Wiring};
+use crate::answer::{Port, Setup, State, Wiring};
 use crate::form::Form;
 use crate::random::Random;
 use crate::table::Table;
@@ -93,9 +93,12 @@ impl Traffic {
         up(Form::AttachedVirtual, &values, &[])
     }
 
+    /// A value format, rather one that is missing.
     fn format(&mut self, table: &Table) -> (Way, Vec<u8>) {
-        let port = self.present(table);
-        let mode = self.mode(table, port);
+        let port = self.rather(table, |port| {
+            mode(table, port).is_some_and(|mode| table.format(port, mode).is_none())
+        });
+        let mode = self.mode_of(table, port);
         let datasets = match self.random.below(4) {
             0 => self.random.between(1, 16),
             _ => self.random.between(1, 3),
@@ -121,9 +124,11 @@ impl Traffic {
         (Way::Down, message)
     }
 
-    /// A 47: as asked, with one field other, or any.
+    /// A 47, rather one that is due: as asked, with one field other, or any.
     fn answer(&mut self, table: &Table) -> (Way, Vec<u8>) {
-        let port = self.present(table);
+        let port = self.rather(table, |port| {
+            table.port(port).is_some_and(|it| it.state == State::Unanswered)
+        });
         let other = self.any_setup();
         let mut setup = table.port(port).and_then(|it| it.asked).unwrap_or(other);
         match self.random.below(12) {
@@ -137,11 +142,11 @@ impl Traffic {
         up(Form::InputFormat, &setup_values(port, setup), &[])
     }
 
-    /// A 45, mostly by the mode and the format of its port.
+    /// A 45, rather one of a port whose format is known, and mostly by that format.
     fn port_value(&mut self, table: &Table) -> (Way, Vec<u8>) {
-        let port = self.present(table);
-        let mode = table.port(port).and_then(|it| it.answered).map(|it| it.mode);
-        let bytes = match mode.and_then(|mode| table.format(port, mode)) {
+        let format = |port| mode(table, port).and_then(|mode| table.format(port, mode));
+        let port = self.rather(table, |port| format(port).is_some());
+        let bytes = match format(port) {
             Some(format) => self.value_bytes(format.datasets, format.kind),
             None => {
                 let [datasets, kind] = [self.random.between(1, 4), self.random.below(4)];
@@ -247,12 +252,21 @@ impl Traffic {
         }
     }
 
-    /// A mode: often one that the port was set to.
-    fn mode(&mut self, table: &Table, port: u8) -> u8 {
-        let answered = table.port(port).and_then(|it| it.answered);
-        match (self.random.below(8), answered) {
+    /// One of the list's ports that is as wanted; if there is none, and now and then, one that is present.
+    fn rather(&mut self, table: &Table, wanted: impl Fn(u8) -> bool) -> u8 {
+        let such: Vec<u8> = self.ports.iter().copied().filter(|&port| wanted(port)).collect();
+        if such.is_empty() || self.random.once_in(6) {
+            self.present(table)
+        } else {
+            self.random.one_of(&such)
+        }
+    }
+
+    /// A mode: often the one that the port is in.
+    fn mode_of(&mut self, table: &Table, port: u8) -> u8 {
+        match (self.random.below(8), mode(table, port)) {
             (0, _) => self.random.between(0, 15) as u8,
-            (1..=4, Some(setup)) => setup.mode,
+            (1..=4, Some(mode)) => mode,
             _ => self.random.one_of(&MODES),
         }
     }
@@ -272,6 +286,11 @@ impl Traffic {
     fn device(&mut self) -> u64 {
         self.random.between(0, 0xFFFF) as u64
     }
+}
+
+/// The mode that a port is in.
+fn mode(table: &Table, port: u8) -> Option<u8> {
+    table.port(port)?.answered.map(|setup| setup.mode)
 }
 
 /// A message that goes up.
