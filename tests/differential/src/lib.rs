@@ -3,11 +3,19 @@
 
 mod cells;
 mod product;
+mod table;
 mod tally;
 mod writing;
 
 pub use cells::{cells, Cells, CELLS};
-pub use product::{castanetash_read, castanetash_write, read, write};
+pub use product::{
+    castanetash_dataset, castanetash_empty, castanetash_format, castanetash_offer, castanetash_port, castanetash_read,
+    castanetash_write, read, way_byte, write,
+};
+pub use table::{
+    dataset_cells, format_cells, offer_answer, port_cells, LentTable, TableTally, Trio, DATASET_CELLS, FORMAT_CELLS,
+    NOT_SOUND, PORT_CELLS,
+};
 pub use tally::Tally;
 pub use writing::{any_call, edges, near_call, outside, valid_calls, Call, WriteTally, NO_MESSAGE, OUTPUT};
 pub use yardstick::traffic::{known_types, plausible};

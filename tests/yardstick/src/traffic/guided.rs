@@ -37,6 +37,18 @@ impl Traffic {
         Traffic { random, scene, ports }
     }
 
+    /// Starts a list that goes on from a table with these ports, and names two more.
+    pub fn over(seed: u64, present: impl Iterator<Item = u8>) -> Traffic {
+        let mut random = Random::new(seed);
+        let mut ports: Vec<u8> = present.collect();
+        ports.extend([random.byte(), random.byte()]);
+        Traffic {
+            random,
+            scene: Scene::Mixed,
+            ports,
+        }
+    }
+
     /// The next message, and its way.
     pub fn next(&mut self, table: &Table) -> (Way, Vec<u8>) {
         let sort = self.scene.sort(&mut self.random);
