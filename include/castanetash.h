@@ -91,8 +91,8 @@ size_t castanetash_read(const uint8_t *message, size_t message_len, uint8_t way,
  * filled will do; open bytes pass on their own, none for a form without them.
  *
  * Accepted: returns the length of the message, a number below 128; the bytes of out past it keep their contents.
- * Refused: returns the refusal number times 2^32 plus the place, and out keeps its contents. The numbers are 5, 6, 7 and
- * 8, and 255 with place 0 for cells that are no message of their form: fewer than 20 cells, an unknown form, a number
+ * Refused: returns the refusal number times 2^32 plus the place, and out keeps its contents. The numbers are 5, 6, 7
+ * and 8, and 255 with place 0 for cells that are no message of their form: fewer than 20 cells, an unknown form, a number
  * wider than its field, or another number where the form's list of values above has a fixed one.
  */
 uint64_t castanetash_write(const uint64_t *cells, size_t cells_len, uint8_t way, const uint8_t *open, size_t open_len,
@@ -140,7 +140,7 @@ enum castanetash_state {
 #define CASTANETASH_DATASET_CELLS 7
 
 enum castanetash_dataset_cell {
-    CASTANETASH_DATASET_CELL_REFUSAL = 0, /* refusal number, 0 if handed out; else all but the place are 0 */
+    CASTANETASH_DATASET_CELL_REFUSAL = 0, /* refusal number, 0 if handed out; unless 0, the cells from 2 on are 0 */
     CASTANETASH_DATASET_CELL_PLACE = 1,   /* place of the refusal in the message */
     CASTANETASH_DATASET_CELL_KIND = 2,    /* 0 whole number, 1 float */
     CASTANETASH_DATASET_CELL_VALUE = 3,   /* the number, a float as its 32 bits */
@@ -182,8 +182,8 @@ enum castanetash_wiring {
 
 size_t castanetash_port(const uint32_t *table, size_t table_len, uint8_t port, uint64_t *cells, size_t cells_len);
 
-/* The format of a port's mode. Fills the first 6 cells and returns 6; where there are fewer, it changes none and returns
- * 0. What isn't known is 0; no mode over 15 has a format. */
+/* The format of a port's mode. Fills the first 6 cells and returns 6; where there are fewer, it changes none and
+ * returns 0. What isn't known is 0; no mode over 15 has a format. */
 #define CASTANETASH_FORMAT_CELLS 6
 
 enum castanetash_format_cell {

@@ -1,5 +1,5 @@
-//! What the tests share: the product's C interface, the comparison with the second program, and random messages to be
-//! read and to be written.
+//! What the tests share: the product's C interface, the comparison with the second program in reading, in writing and
+//! in port tables, and random messages.
 
 mod cells;
 mod product;

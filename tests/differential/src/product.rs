@@ -81,8 +81,8 @@ pub fn read(way: Way, message: &[u8]) -> Cells {
 /// The product's writing of one message, as its C interface gives it. Way 0 is down, any other up.
 #[allow(unsafe_code)]
 pub fn castanetash_write(cells: &[u64], way: u8, open: &[u8], output: &mut [u8]) -> u64 {
-    // SAFETY: each pointer comes from a slice of the length passed with it; the callee keeps none of the pointers, reads
-    // only the cells and the open bytes and writes only the output.
+    // SAFETY: each pointer comes from a slice of the length passed with it; the callee keeps none of the pointers,
+    // reads only the cells and the open bytes and writes only the output.
     unsafe {
         interface::castanetash_write(
             cells.as_ptr(),
@@ -116,12 +116,12 @@ pub fn castanetash_offer(table: &mut [u32], message: &[u8], way: u8) -> u64 {
     unsafe { interface::castanetash_offer(table.as_mut_ptr(), table.len(), message.as_ptr(), message.len(), way) }
 }
 
-/// Hands out a dataset, as the product's C interface does it. Way 0 is down, any other up. The table is lent as one that
-/// may change, so that a test can see that it doesn't.
+/// Hands out a dataset, as the product's C interface does it. Way 0 is down, any other up. The table is lent as one
+/// that may change, so that a test can see that it doesn't.
 #[allow(unsafe_code)]
 pub fn castanetash_dataset(table: &mut [u32], message: &[u8], way: u8, number: usize, cells: &mut [u64]) -> usize {
-    // SAFETY: each pointer comes from a slice of the length passed with it; the callee keeps none of the pointers, reads
-    // only the table and the message and writes only the cells.
+    // SAFETY: each pointer comes from a slice of the length passed with it; the callee keeps none of the pointers,
+    // reads only the table and the message and writes only the cells.
     unsafe {
         interface::castanetash_dataset(
             table.as_mut_ptr(),

@@ -254,8 +254,8 @@ fn shuffle(random: &mut Random, cells: &mut TableCells) {
     }
 }
 
-/// Changes a record: another number in one cell, mostly one that says what the port is or how it is set up; or the whole
-/// record, which is freed or becomes a copy of another one.
+/// Changes a record: another number in one cell, mostly one that says what the port is or how it is set up; or the
+/// whole record, which is freed or becomes a copy of another one.
 fn harm(random: &mut Random, cells: &mut TableCells, table: &Table) {
     let [place, other] = [random.below(16), random.below(16)].map(|place| place * RECORD_CELLS);
     match random.below(12) {

@@ -5,14 +5,14 @@ use differential::{
     offer_answer, port_cells, DATASET_CELLS, FORMAT_CELLS, PORT_CELLS,
 };
 use yardstick::examples::{bytes, SOUND};
-use yardstick::{Table, Way};
+use yardstick::{Table, Way, RECORD_CELLS};
 
 /// What stands in the cells beforehand, a different number in each.
 fn pattern(length: usize) -> Vec<u64> {
     (0..length as u64).map(|cell| 0xA5A5_0000_0000_5A00 | cell).collect()
 }
 
-/// Makes a call with fewer, as many and more cells than it fills. It has to give the answer, and to change nothing else.
+/// Makes a call with fewer, as many and more cells than it fills. It has to give the answer and change nothing else.
 fn expect(name: &str, answer: &[u64], mut call: impl FnMut(&mut [u64]) -> usize) {
     for length in 0..answer.len() + 12 {
         let before = pattern(length);
@@ -43,8 +43,8 @@ fn only_the_first_cells_change() {
     let mut calls = 0;
     for example in SOUND {
         let mut cells = example.cells();
-        // Port 2 is in mode 0.
-        cells[8 * 28 + 12] = 1;
+        // Port 2, at place 8, is in mode 0, which now has one dataset of 8 bits.
+        cells[8 * RECORD_CELLS + 12] = 1;
         let table = Table::from_cells(&cells);
         let table = table.as_ref().map_err(|&refusal| refusal);
         assert_eq!(table.is_ok(), example.is_sound, "{}", example.name);
@@ -79,13 +79,13 @@ fn only_the_first_cells_change() {
 
 #[test]
 fn way_0_is_down_and_any_other_up() {
-    let mut answers = Vec::new();
+    let mut cells = SOUND[0].cells();
+    // Port 11, at place 14, is in mode 0, which now has one dataset of 8 bits.
+    cells[14 * RECORD_CELLS + 12] = 1;
+    let table = Table::from_cells(&cells).expect("a sound table");
     for message in ["03 00 12", "04 00 13 00", "04 00 02 30", "05 00 45 0B 01"] {
         let message = bytes(message);
-        let mut cells = SOUND[0].cells();
-        // Port 11, at place 14, is in mode 0, which has one dataset of 8 bits.
-        cells[14 * 28 + 12] = 1;
-        let table = Table::from_cells(&cells).expect("a sound table");
+        let mut answers = Vec::new();
         for byte in 0..=255 {
             let way = if byte == 0 { Way::Down } else { Way::Up };
             let mut after = table.clone();
@@ -103,7 +103,6 @@ fn way_0_is_down_and_any_other_up() {
             assert_eq!(handed_out, dataset_cells(dataset), "{message:02X?}, way {byte}");
             answers.push(answer);
         }
-        let [down, up] = [answers[answers.len() - 256], answers[answers.len() - 1]];
-        assert_ne!(down, up, "{message:02X?} each way");
+        assert_ne!(answers[0], answers[1], "{message:02X?} each way");
     }
 }

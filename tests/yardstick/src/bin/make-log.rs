@@ -1,5 +1,5 @@
-//! Writes a log to the standard output: `make-log bench SEED RECORDS` as a bench makes it, `make-log every SEED RECORDS`
-//! with every form and every refusal that a log can show.
+//! Writes a log to the standard output: `make-log bench SEED RECORDS` as a bench makes it,
+//! `make-log every SEED RECORDS` with every form and every refusal that a log can show.
 
 use std::env;
 use std::io::{self, stdout};

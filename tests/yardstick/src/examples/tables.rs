@@ -148,6 +148,22 @@ pub const TABLES: &[TableExample] = &[
         accepted(Up, VIRTUAL_10),
         bare(0x10, MEMBERS_0_1),
     ] },
+    TableExample { name: "a virtual port attached again has its new members only", steps: &[
+        accepted(Up, ATTACH_0),
+        accepted(Up, ATTACH_1),
+        accepted(Up, ATTACH_2),
+        accepted(Up, VIRTUAL_10),
+        accepted(Up, "05 00 04 10 00"),
+        accepted(Up, "09 00 04 10 02 26 00 02 01"),
+        bare(0, Unjoined),
+        bare(1, OF_10),
+        bare(2, OF_10),
+        bare(0x10, Virtual { port_a: 2, port_b: 1 }),
+        // A former member goes alone.
+        accepted(Up, "05 00 04 00 00"),
+        bare(0x10, Virtual { port_a: 2, port_b: 1 }),
+        bare(1, OF_10),
+    ] },
     TableExample { name: "a pair is two members: present, different, physical and unjoined", steps: &[
         accepted(Up, ATTACH_0),
         accepted(Up, ATTACH_1),
