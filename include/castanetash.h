@@ -92,8 +92,8 @@ size_t castanetash_read(const uint8_t *message, size_t message_len, uint8_t way,
  *
  * Accepted: returns the length of the message, a number below 128; the bytes of out past it keep their contents.
  * Refused: returns the refusal number times 2^32 plus the place, and out keeps its contents. The numbers are 5, 6, 7
- * and 8, and 255 with place 0 for cells that are no message of their form: fewer than 20 cells, an unknown form, a number
- * wider than its field, or another number where the form's list of values above has a fixed one.
+ * and 8, and 255 with place 0 for cells that are no message of their form: fewer than 20 cells, an unknown form, a
+ * number wider than its field, or another number where the form's list of values above has a fixed one.
  */
 uint64_t castanetash_write(const uint64_t *cells, size_t cells_len, uint8_t way, const uint8_t *open, size_t open_len,
                            uint8_t *out, size_t out_len);
