@@ -1,16 +1,23 @@
-//! What the tests share: the product's C interface, the comparison with the second program, and random messages to be
-//! read and to be written.
+//! What the tests share: the product's C interface, the comparison with the second program in reading, in writing and
+//! in port tables, and random messages.
 
 mod cells;
-mod plausible;
 mod product;
-mod random;
+#[cfg(feature = "table")]
+mod table;
 mod tally;
 mod writing;
 
 pub use cells::{cells, Cells, CELLS};
-pub use plausible::{known_types, plausible};
-pub use product::{castanetash_read, castanetash_write, read, write};
-pub use random::Random;
+#[cfg(feature = "table")]
+pub use product::{castanetash_dataset, castanetash_empty, castanetash_format, castanetash_offer, castanetash_port};
+pub use product::{castanetash_read, castanetash_write, read, way_byte, write};
+#[cfg(feature = "table")]
+pub use table::{
+    dataset_cells, format_cells, offer_answer, port_cells, LentTable, TableTally, Trio, DATASET_CELLS, FORMAT_CELLS,
+    NOT_SOUND, PORT_CELLS,
+};
 pub use tally::Tally;
 pub use writing::{any_call, edges, near_call, outside, valid_calls, Call, WriteTally, NO_MESSAGE, OUTPUT};
+pub use yardstick::traffic::{known_types, plausible};
+pub use yardstick::Random;

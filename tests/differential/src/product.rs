@@ -21,6 +21,49 @@ mod interface {
             output: *mut u8,
             output_len: usize,
         ) -> u64;
+
+        #[cfg(feature = "table")]
+        pub fn castanetash_empty(table: *mut u32, table_len: usize) -> u64;
+
+        #[cfg(feature = "table")]
+        pub fn castanetash_offer(
+            table: *mut u32,
+            table_len: usize,
+            message: *const u8,
+            message_len: usize,
+            way: u8,
+        ) -> u64;
+
+        #[cfg(feature = "table")]
+        pub fn castanetash_dataset(
+            table: *const u32,
+            table_len: usize,
+            message: *const u8,
+            message_len: usize,
+            way: u8,
+            number: usize,
+            cells: *mut u64,
+            cells_len: usize,
+        ) -> usize;
+
+        #[cfg(feature = "table")]
+        pub fn castanetash_port(
+            table: *const u32,
+            table_len: usize,
+            port: u8,
+            cells: *mut u64,
+            cells_len: usize,
+        ) -> usize;
+
+        #[cfg(feature = "table")]
+        pub fn castanetash_format(
+            table: *const u32,
+            table_len: usize,
+            port: u8,
+            mode: u8,
+            cells: *mut u64,
+            cells_len: usize,
+        ) -> usize;
     }
 }
 
@@ -43,8 +86,8 @@ pub fn read(way: Way, message: &[u8]) -> Cells {
 /// The product's writing of one message, as its C interface gives it. Way 0 is down, any other up.
 #[allow(unsafe_code)]
 pub fn castanetash_write(cells: &[u64], way: u8, open: &[u8], output: &mut [u8]) -> u64 {
-    // SAFETY: each pointer comes from a slice of the length passed with it; the callee keeps none of the pointers, reads
-    // only the cells and the open bytes and writes only the output.
+    // SAFETY: each pointer comes from a slice of the length passed with it; the callee keeps none of the pointers,
+    // reads only the cells and the open bytes and writes only the output.
     unsafe {
         interface::castanetash_write(
             cells.as_ptr(),
@@ -63,7 +106,73 @@ pub fn write(way: Way, cells: &Cells, open: &[u8], output: &mut [u8]) -> u64 {
     castanetash_write(cells, way_byte(way), open, output)
 }
 
-fn way_byte(way: Way) -> u8 {
+/// Makes a table an empty one, as the product's C interface does it.
+#[cfg(feature = "table")]
+#[allow(unsafe_code)]
+pub fn castanetash_empty(table: &mut [u32]) -> u64 {
+    // SAFETY: the pointer comes from a slice of the length passed with it, and the callee doesn't keep it.
+    unsafe { interface::castanetash_empty(table.as_mut_ptr(), table.len()) }
+}
+
+/// Offers a message to a table, as the product's C interface does it. Way 0 is down, any other up.
+#[cfg(feature = "table")]
+#[allow(unsafe_code)]
+pub fn castanetash_offer(table: &mut [u32], message: &[u8], way: u8) -> u64 {
+    // SAFETY: each pointer comes from a slice of the length passed with it; the callee keeps neither pointer, reads
+    // only the table and the message and writes only the table.
+    unsafe { interface::castanetash_offer(table.as_mut_ptr(), table.len(), message.as_ptr(), message.len(), way) }
+}
+
+/// Hands out a dataset, as the product's C interface does it. Way 0 is down, any other up. The table is lent as one
+/// that may change, so that a test can see that it doesn't.
+#[cfg(feature = "table")]
+#[allow(unsafe_code)]
+pub fn castanetash_dataset(table: &mut [u32], message: &[u8], way: u8, number: usize, cells: &mut [u64]) -> usize {
+    // SAFETY: each pointer comes from a slice of the length passed with it; the callee keeps none of the pointers,
+    // reads only the table and the message and writes only the cells.
+    unsafe {
+        interface::castanetash_dataset(
+            table.as_mut_ptr(),
+            table.len(),
+            message.as_ptr(),
+            message.len(),
+            way,
+            number,
+            cells.as_mut_ptr(),
+            cells.len(),
+        )
+    }
+}
+
+/// What a table holds about a port, as the product's C interface gives it. The table is lent as one that may change.
+#[cfg(feature = "table")]
+#[allow(unsafe_code)]
+pub fn castanetash_port(table: &mut [u32], port: u8, cells: &mut [u64]) -> usize {
+    // SAFETY: each pointer comes from a slice of the length passed with it; the callee keeps neither pointer, reads
+    // only the table and writes only the cells.
+    unsafe { interface::castanetash_port(table.as_mut_ptr(), table.len(), port, cells.as_mut_ptr(), cells.len()) }
+}
+
+/// The format of a port's mode, as the product's C interface gives it. The table is lent as one that may change.
+#[cfg(feature = "table")]
+#[allow(unsafe_code)]
+pub fn castanetash_format(table: &mut [u32], port: u8, mode: u8, cells: &mut [u64]) -> usize {
+    // SAFETY: each pointer comes from a slice of the length passed with it; the callee keeps neither pointer, reads
+    // only the table and writes only the cells.
+    unsafe {
+        interface::castanetash_format(
+            table.as_mut_ptr(),
+            table.len(),
+            port,
+            mode,
+            cells.as_mut_ptr(),
+            cells.len(),
+        )
+    }
+}
+
+/// A way as the C interface is told it.
+pub fn way_byte(way: Way) -> u8 {
     match way {
         Way::Down => 0,
         Way::Up => 1,

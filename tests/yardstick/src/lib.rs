@@ -1,8 +1,11 @@
 //! A second program by the rules of the product, written from the documents alone.
 //!
-//! [`decode`] reads one message of LEGO Wireless Protocol 3.0, and [`encode`] writes one. The tests in `differential`
-//! compare their answers with those of the product.
+//! [`decode`] reads one message of LEGO Wireless Protocol 3.0, and [`encode`] writes one. [`Table`] is a port table for
+//! one hub, [`MessageList`] the reader without a table, and [`read_log`] the log reader. The tests in `differential`
+//! compare their answers with those of the product. [`traffic`] and [`make_log`] make messages and logs to try them
+//! with.
 
+mod answer;
 mod decode;
 mod decoded;
 mod encode;
@@ -15,18 +18,29 @@ mod hub;
 mod hub_property;
 mod kind;
 mod lists;
+mod log;
+pub mod make_log;
 mod message;
 mod mode_information;
 mod port;
+mod random;
 mod refusal;
+mod table;
+mod tableless;
+pub mod traffic;
 mod values;
 mod way;
 
+pub use answer::{Dataset, Format, Port, Setup, State, Value, Wiring};
 pub use decode::decode;
 pub use decoded::Decoded;
 pub use encode::{encode, encode_to};
 pub use form::Form;
 pub use kind::Kind;
+pub use log::{log_message, log_record, read_log, LOG_RECORD};
 pub use message::Message;
+pub use random::Random;
 pub use refusal::Refusal;
+pub use table::{PortValue, Step, Table, TableCells, PLACES, RECORD_CELLS, TABLE_CELLS};
+pub use tableless::MessageList;
 pub use way::Way;

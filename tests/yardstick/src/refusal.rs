@@ -22,6 +22,28 @@ impl Refusal {
     pub const SIZE: Refusal = Refusal::new(6, 0);
     /// The output is shorter than the message.
     pub const OUTPUT: Refusal = Refusal::new(8, 0);
+    /// The table isn't sound.
+    pub const TABLE: Refusal = Refusal::new(9, 0);
+    /// The port named isn't present.
+    pub const PORT_ABSENT: Refusal = Refusal::new(10, 0);
+    /// An attached port is present already.
+    pub const PORT_PRESENT: Refusal = Refusal::new(11, 0);
+    /// A bad pair.
+    pub const PAIR: Refusal = Refusal::new(12, 0);
+    /// All sixteen records are in use.
+    pub const FULL: Refusal = Refusal::new(13, 0);
+    /// The port has no mode yet.
+    pub const NO_MODE: Refusal = Refusal::new(14, 0);
+    /// That mode has no format yet.
+    pub const NO_FORMAT: Refusal = Refusal::new(15, 0);
+    /// Value bytes differ from datasets times width.
+    pub const VALUE_SIZE: Refusal = Refusal::new(16, 0);
+    /// No dataset of that number.
+    pub const NO_DATASET: Refusal = Refusal::new(17, 0);
+    /// A float dataset is an infinity or a NaN.
+    pub const NOT_FINITE: Refusal = Refusal::new(18, 0);
+    /// A log record is malformed.
+    pub const LOG_RECORD: Refusal = Refusal::new(19, 0);
 
     /// The field that starts at `place` is outside its list.
     pub const fn field(place: usize) -> Refusal {

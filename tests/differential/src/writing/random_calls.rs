@@ -2,8 +2,8 @@ use yardstick::{Form, Kind, Way};
 
 use super::call::{Call, OUTPUT};
 use super::edges::edges;
-use crate::plausible::plausible;
-use crate::random::Random;
+use yardstick::traffic::plausible;
+use yardstick::Random;
 
 /// Makes a random call that is nearly or wholly a valid one: that of an accepted message, with something changed now
 /// and then.

@@ -5,7 +5,7 @@ use yardstick::{encode_to, Form, Message};
 use super::answer::{answer, number, NO_MESSAGE};
 use super::call::Call;
 use crate::product;
-use crate::random::Random;
+use yardstick::Random;
 
 /// The answers that are counted: acceptance, the refusals of writing, and no message.
 const NUMBERS: [usize; 6] = [0, 5, 6, 7, 8, 255];

@@ -2,7 +2,11 @@
 
 mod bench;
 mod forms;
+mod hex;
 mod order;
+mod sound;
+mod table_step;
+mod tables;
 mod writing;
 
 use std::ops::Range;
@@ -15,7 +19,11 @@ use crate::way::Way;
 
 pub use bench::BENCH;
 pub use forms::FORMS;
+pub use hex::bytes;
 pub use order::ORDER;
+pub use sound::{SoundExample, SOUND};
+pub use table_step::{TableExample, TableStep};
+pub use tables::TABLES;
 pub use writing::{Unwritten, WRITING};
 
 /// A message with its answer.
@@ -39,8 +47,7 @@ enum Answer {
 impl Example {
     /// The message's bytes.
     pub fn bytes(&self) -> Vec<u8> {
-        let byte = |digits| u8::from_str_radix(digits, 16).expect("a message is written in hex");
-        self.message.split_whitespace().map(byte).collect()
+        bytes(self.message)
     }
 
     /// The answer that reading the message has to give.

@@ -1,6 +1,6 @@
-use yardstick::Way;
-
+use super::float::float;
 use crate::random::Random;
+use crate::way::Way;
 
 /// The known types that go a way.
 pub fn known_types(way: Way) -> &'static [u8] {
@@ -258,25 +258,8 @@ impl Body<'_> {
         }
     }
 
-    /// A float: often an infinity, a NaN or next to one.
     fn float(&mut self) {
-        let sign = (self.random.number() as u32) & 0x8000_0000;
-        let fraction = (self.random.number() as u32) & 0x007F_FFFF;
-        let magnitude = match self.random.below(16) {
-            0 => 0x7F80_0000,
-            1 => 0x7F80_0001,
-            2 => 0x7FC0_0000,
-            3 => 0x7F80_0000 | fraction,
-            4 => 0x7F7F_FFFF,
-            5 => 0x7F00_0000 | fraction,
-            6 => 0,
-            7 => 1,
-            8 => fraction,
-            9 => 0x0080_0000,
-            10 => 1.0f32.to_bits(),
-            11 => 200.0f32.to_bits(),
-            _ => (self.random.number() as u32) & 0x7FFF_FFFF,
-        };
-        self.message.extend((sign | magnitude).to_le_bytes());
+        let bits = float(self.random);
+        self.message.extend(bits.to_le_bytes());
     }
 }

@@ -1,0 +1,103 @@
+use std::fmt;
+
+use yardstick::{Port, Refusal, Wiring};
+
+/// How many numbers answers have: 0 for acceptance and the refusals.
+const NUMBERS: usize = 20;
+
+/// Counts what was compared.
+#[derive(Default)]
+pub struct TableTally {
+    offered: [u64; NUMBERS],
+    handed_out: [u64; NUMBERS],
+    /// Ports that were absent, unjoined, joined, virtual.
+    wirings: [u64; 4],
+    states: [u64; 4],
+    formats: u64,
+}
+
+impl TableTally {
+    /// Counts the answer to an offered message.
+    pub fn count_offered(&mut self, answer: Result<(), Refusal>) {
+        self.offered[number(answer)] += 1;
+    }
+
+    /// Counts the answer to a dataset that was asked for.
+    pub fn count_handed_out<T>(&mut self, answer: Result<T, Refusal>) {
+        self.handed_out[number(answer)] += 1;
+    }
+
+    /// Counts a port.
+    pub fn count_port(&mut self, port: Option<Port>) {
+        let Some(port) = port else {
+            self.wirings[0] += 1;
+            return;
+        };
+        let wiring = match port.wiring {
+            Wiring::Unjoined => 1,
+            Wiring::Joined { .. } => 2,
+            Wiring::Virtual { .. } => 3,
+        };
+        self.wirings[wiring] += 1;
+        self.states[usize::from(port.state.number())] += 1;
+    }
+
+    /// Counts a known format.
+    pub fn count_format(&mut self) {
+        self.formats += 1;
+    }
+
+    /// Panics unless each number came at least `least` times for an offered message, 0 for acceptance.
+    pub fn expect_offered(&self, numbers: impl IntoIterator<Item = usize>, least: u64) {
+        for number in numbers {
+            let seen = self.offered[number];
+            assert!(seen >= least, "{number} was offered {seen} times, not {least}\n{self}");
+        }
+    }
+
+    /// Panics unless each number came at least `least` times for a dataset, 0 for one that was handed out.
+    pub fn expect_handed_out(&self, numbers: impl IntoIterator<Item = usize>, least: u64) {
+        for number in numbers {
+            let seen = self.handed_out[number];
+            assert!(
+                seen >= least,
+                "{number} was handed out {seen} times, not {least}\n{self}"
+            );
+        }
+    }
+
+    /// Panics unless ports of every wiring and every state, and known formats, came at least `least` times.
+    pub fn expect_ports(&self, least: u64) {
+        let counts = self.wirings.iter().chain(&self.states).chain([&self.formats]);
+        for &seen in counts {
+            assert!(seen >= least, "a port's answer came {seen} times, not {least}\n{self}");
+        }
+    }
+}
+
+fn number<T>(answer: Result<T, Refusal>) -> usize {
+    answer.err().map_or(0, |refusal| refusal.number.into())
+}
+
+impl fmt::Display for TableTally {
+    fn fmt(&self, f: &mut fmt::Formatter) -> fmt::Result {
+        let sum = |counts: &[u64]| counts.iter().sum::<u64>();
+        write!(f, "{} messages", sum(&self.offered))?;
+        for (name, counts) in [("offered", &self.offered), ("handed out", &self.handed_out)] {
+            write!(f, "\n{name}")?;
+            for (number, seen) in counts.iter().enumerate().filter(|(_, &seen)| seen > 0) {
+                write!(f, " {number}:{seen}")?;
+            }
+        }
+        if sum(&self.wirings) > 0 {
+            let [absent, unjoined, joined, virtual_ports] = self.wirings;
+            write!(
+                f,
+                "\nports: absent {absent}, unjoined {unjoined}, joined {joined}, virtual {virtual_ports}; states {:?}; \
+                 formats {}",
+                self.states, self.formats
+            )?;
+        }
+        Ok(())
+    }
+}

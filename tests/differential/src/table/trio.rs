@@ -1,0 +1,136 @@
+use yardstick::{MessageList, Table, Way, Wiring};
+
+use super::answer::{dataset_cells, format_cells, offer_answer, port_cells};
+use super::lent_table::LentTable;
+use super::tally::TableTally;
+
+/// A list of messages that three follow: the product's table, the second program's table and the reader without a
+/// table. Every comparison panics if two of them differ.
+#[derive(Clone)]
+pub struct Trio {
+    product: LentTable,
+    table: Table,
+    list: MessageList,
+}
+
+impl Default for Trio {
+    /// The empty list.
+    fn default() -> Trio {
+        Trio {
+            product: LentTable::empty(),
+            table: Table::default(),
+            list: MessageList::default(),
+        }
+    }
+}
+
+impl Trio {
+    /// The second program's table.
+    pub fn table(&self) -> &Table {
+        &self.table
+    }
+
+    /// Offers a message, and compares the answers and all cells of the two tables. Gives the ports that the message may
+    /// have touched: those it names, their partners and those that went.
+    pub fn offer(&mut self, tally: &mut TableTally, way: Way, message: &[u8]) -> Vec<u8> {
+        let before: Vec<u8> = self.table.ports().collect();
+        let mut touched = self.named(message);
+        let answer = self.table.offer(way, message);
+        let by_list = self.list.push(way, message);
+        let by_product = self.product.offer(way, message);
+        assert_eq!(by_list, answer, "the second program differs on {message:02X?} {way:?}");
+        assert_eq!(
+            by_product,
+            offer_answer(answer),
+            "the product differs on {message:02X?} {way:?}"
+        );
+        assert_eq!(
+            self.product.cells(),
+            self.table.to_cells(),
+            "the tables differ after {message:02X?} {way:?}"
+        );
+        tally.count_offered(answer);
+        touched.extend(self.named(message));
+        touched.extend(before.into_iter().filter(|&port| self.table.port(port).is_none()));
+        touched.sort_unstable();
+        touched.dedup();
+        touched
+    }
+
+    /// Hands out a dataset of a message as the next of the list.
+    pub fn hand_out(&mut self, tally: &mut TableTally, way: Way, message: &[u8], number: usize) {
+        let answer = self.table.hand_out(way, message, number);
+        let by_list = self.list.hand_out(way, message, number);
+        let by_product = self.product.dataset(way, message, number);
+        assert_eq!(
+            by_list, answer,
+            "the second program differs on dataset {number} of {message:02X?} {way:?}"
+        );
+        assert_eq!(
+            by_product,
+            dataset_cells(answer),
+            "the product differs on dataset {number} of {message:02X?} {way:?}"
+        );
+        tally.count_handed_out(answer);
+    }
+
+    /// Compares what is held about a port, and the formats of its modes.
+    pub fn compare_port(&mut self, tally: &mut TableTally, port: u8) {
+        let answer = self.table.port(port);
+        assert_eq!(
+            self.list.port(port),
+            answer,
+            "the second program differs on port {port}"
+        );
+        assert_eq!(
+            self.product.port(port),
+            port_cells(Ok(answer)),
+            "the product differs on port {port}"
+        );
+        tally.count_port(answer);
+        // No mode of an absent port has a format; a mode over 15 has none either.
+        match answer {
+            Some(_) => (0..=16).for_each(|mode| self.compare_format(tally, port, mode)),
+            None => self.compare_format(tally, port, port % 16),
+        }
+    }
+
+    /// Compares all of the ports.
+    pub fn compare_ports(&mut self, tally: &mut TableTally, ports: impl IntoIterator<Item = u8>) {
+        for port in ports {
+            self.compare_port(tally, port);
+        }
+    }
+
+    /// The ports that a message names, and their partners.
+    fn named(&self, message: &[u8]) -> Vec<u8> {
+        // Wherever messages name ports.
+        let places = [3, 4, 5, 7, 8].into_iter();
+        let mut ports: Vec<u8> = places.filter_map(|place| message.get(place).copied()).collect();
+        for port in ports.clone() {
+            match self.table.port(port).map(|it| it.wiring) {
+                Some(Wiring::Joined { virtual_port }) => ports.push(virtual_port),
+                Some(Wiring::Virtual { port_a, port_b }) => ports.extend([port_a, port_b]),
+                Some(Wiring::Unjoined) | None => {}
+            }
+        }
+        ports
+    }
+
+    fn compare_format(&mut self, tally: &mut TableTally, port: u8, mode: u8) {
+        let answer = self.table.format(port, mode);
+        assert_eq!(
+            self.list.format(port, mode),
+            answer,
+            "the second program differs on port {port}, mode {mode}"
+        );
+        assert_eq!(
+            self.product.format(port, mode),
+            format_cells(Ok(answer)),
+            "the product differs on port {port}, mode {mode}"
+        );
+        if answer.is_some() {
+            tally.count_format();
+        }
+    }
+}

@@ -1,0 +1,126 @@
+//! Follows a port from its attachment to its first value, and shows what that value says.
+
+use std::process::ExitCode;
+
+#[link(name = "capi", kind = "static")]
+extern "C" {
+    fn castanetash_empty(table: *mut u32, table_len: usize) -> u64;
+
+    fn castanetash_offer(table: *mut u32, table_len: usize, message: *const u8, message_len: usize, way: u8) -> u64;
+
+    fn castanetash_dataset(
+        table: *const u32,
+        table_len: usize,
+        message: *const u8,
+        message_len: usize,
+        way: u8,
+        number: usize,
+        cells: *mut u64,
+        cells_len: usize,
+    ) -> usize;
+
+    fn castanetash_port(table: *const u32, table_len: usize, port: u8, cells: *mut u64, cells_len: usize) -> usize;
+
+    fn castanetash_format(
+        table: *const u32,
+        table_len: usize,
+        port: u8,
+        mode: u8,
+        cells: *mut u64,
+        cells_len: usize,
+    ) -> usize;
+}
+
+const DOWN: u8 = 0;
+const UP: u8 = 1;
+
+/// A port table for one hub.
+struct Table([u32; 448]);
+
+impl Table {
+    fn empty() -> Table {
+        let mut table = [0; 448];
+        // SAFETY: the pointer comes from an array of the length passed with it, and the callee doesn't keep it.
+        unsafe { castanetash_empty(table.as_mut_ptr(), table.len()) };
+        Table(table)
+    }
+
+    /// Changes the table as a message says, or gives the refusal's number and place.
+    fn offer(&mut self, way: u8, message: &[u8]) -> Result<(), (u64, u64)> {
+        let Table(table) = self;
+        // SAFETY: each pointer comes from a slice of the length passed with it, and the callee keeps none of them.
+        let answer =
+            unsafe { castanetash_offer(table.as_mut_ptr(), table.len(), message.as_ptr(), message.len(), way) };
+        match answer >> 32 {
+            0 => Ok(()),
+            number => Err((number, answer & 0xFFFF_FFFF)),
+        }
+    }
+
+    /// Refusal number, place, kind of value, value, port, mode, state.
+    fn dataset(&self, way: u8, message: &[u8], number: usize) -> [u64; 7] {
+        let Table(table) = self;
+        let mut cells = [0; 7];
+        // SAFETY: each pointer comes from a slice of the length passed with it, and the callee keeps none of them.
+        unsafe {
+            castanetash_dataset(
+                table.as_ptr(),
+                table.len(),
+                message.as_ptr(),
+                message.len(),
+                way,
+                number,
+                cells.as_mut_ptr(),
+                cells.len(),
+            )
+        };
+        cells
+    }
+
+    /// Refusal number, wiring, device, partner, second member, state, the setup asked for and the one answered.
+    fn port(&self, port: u8) -> [u64; 14] {
+        let Table(table) = self;
+        let mut cells = [0; 14];
+        // SAFETY: each pointer comes from a slice of the length passed with it, and the callee keeps none of them.
+        unsafe { castanetash_port(table.as_ptr(), table.len(), port, cells.as_mut_ptr(), cells.len()) };
+        cells
+    }
+
+    /// Refusal number, whether the format is known, datasets, kind, figures, decimals.
+    fn format(&self, port: u8, mode: u8) -> [u64; 6] {
+        let Table(table) = self;
+        let mut cells = [0; 6];
+        // SAFETY: each pointer comes from a slice of the length passed with it, and the callee keeps none of them.
+        unsafe { castanetash_format(table.as_ptr(), table.len(), port, mode, cells.as_mut_ptr(), cells.len()) };
+        cells
+    }
+}
+
+fn follow() -> Result<(), (u64, u64)> {
+    let mut table = Table::empty();
+    // Port 0 is attached.
+    table.offer(UP, b"\x0F\x00\x04\x00\x01\x26\x00\x00\x00\x00\x10\x00\x00\x00\x10")?;
+    // Values in mode 2 have one dataset of 32 bits.
+    table.offer(UP, b"\x0A\x00\x44\x00\x02\x80\x01\x02\x04\x00")?;
+    // Mode 2 is asked for, and the hub answers.
+    table.offer(DOWN, b"\x0A\x00\x41\x00\x02\x01\x00\x00\x00\x01")?;
+    table.offer(UP, b"\x0A\x00\x47\x00\x02\x01\x00\x00\x00\x01")?;
+
+    let port = table.port(0);
+    println!("port 0: device {}, state {}", port[2], port[5]);
+    let format = table.format(0, 2);
+    println!("mode 2: datasets {}, kind {}", format[2], format[3]);
+    let dataset = table.dataset(UP, b"\x08\x00\x45\x00\x05\x00\x00\x00", 0);
+    println!("dataset 0: {}", dataset[3]);
+    Ok(())
+}
+
+fn main() -> ExitCode {
+    match follow() {
+        Ok(()) => ExitCode::SUCCESS,
+        Err((number, place)) => {
+            println!("refusal {number}, place {place}");
+            ExitCode::FAILURE
+        }
+    }
+}

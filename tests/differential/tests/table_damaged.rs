@@ -1,0 +1,312 @@
+//! Tables that may not be sound, and sound ones that no list of messages has made in this order. Both programs judge
+//! them alike in every call, and a refused call changes nothing.
+
+#![cfg(feature = "table")]
+
+use differential::{dataset_cells, format_cells, offer_answer, port_cells, LentTable, Random, TableTally, NOT_SOUND};
+use yardstick::examples::SOUND;
+use yardstick::traffic::{Scene, Traffic};
+use yardstick::{Refusal, Table, TableCells, Way, RECORD_CELLS, TABLE_CELLS};
+
+/// What a table is asked for and offered.
+struct Calls {
+    port: u8,
+    mode: u8,
+    number: usize,
+    messages: Vec<(Way, Vec<u8>)>,
+}
+
+/// Makes every call of the product on a table, and compares it with the second program.
+fn compare(tally: &mut TableTally, cells: &[u32], calls: &Calls) {
+    let Calls { port, mode, number, .. } = *calls;
+    let expected = Table::from_cells(cells);
+    let expected = expected.as_ref().map_err(|&refusal| refusal);
+    let mut product = LentTable::new(cells);
+    let name = format!("port {port}, mode {mode} of {cells:?}");
+    let answer = expected.map(|table| table.port(port));
+    assert_eq!(product.port(port), port_cells(answer), "{name}");
+    if let Ok(port) = answer {
+        tally.count_port(port);
+    }
+    let answer = expected.map(|table| table.format(port, mode));
+    assert_eq!(product.format(port, mode), format_cells(answer), "{name}");
+    if let Ok(Some(_)) = answer {
+        tally.count_format();
+    }
+    for (way, message) in &calls.messages {
+        let name = || format!("{message:02X?} {way:?} with {cells:?}");
+        let answer = expected.and_then(|table| table.hand_out(*way, message, number));
+        assert_eq!(
+            product.dataset(*way, message, number),
+            dataset_cells(answer),
+            "{}",
+            name()
+        );
+        tally.count_handed_out(answer);
+        let mut offered = product.clone();
+        let answer = expected.and_then(|table| {
+            let mut table = table.clone();
+            table.offer(*way, message)?;
+            Ok(table)
+        });
+        let by_product = offered.offer(*way, message);
+        match answer {
+            Ok(table) => {
+                assert_eq!(by_product, 0, "{}", name());
+                assert_eq!(offered.cells(), table.to_cells(), "{}", name());
+                tally.count_offered(Ok(()));
+            }
+            // The lent table has looked that nothing changed.
+            Err(refusal) => {
+                assert_eq!(by_product, offer_answer(Err(refusal)), "{}", name());
+                tally.count_offered(Err(refusal));
+            }
+        }
+    }
+}
+
+/// A table, and messages that are guided by it.
+fn table_and_messages(seed: u64, cells: &[u32]) -> (Table, Vec<(Way, Vec<u8>)>) {
+    let table = Table::from_cells(cells).expect("a sound table");
+    let mut traffic = Traffic::over(seed, table.ports());
+    let mut messages: Vec<(Way, Vec<u8>)> = (0..40).map(|_| traffic.next(&table)).collect();
+    messages.extend((0..20).map(|_| traffic.value(&table)));
+    messages.push((Way::Up, vec![0x04, 0x00, 0x02, 0x31]));
+    messages.push((Way::Down, vec![0x03, 0x00, 0x12]));
+    messages.push((Way::Down, vec![]));
+    (table, messages)
+}
+
+/// The sound example of a name.
+fn example(name: &str) -> TableCells {
+    let example = SOUND.iter().find(|example| example.name == name && example.is_sound);
+    example.unwrap_or_else(|| panic!("no sound example: {name}")).cells()
+}
+
+/// A table that messages have made, 300 of them or more, with at least so many ports.
+fn made(seed: u64, scene: Scene, ports: usize) -> TableCells {
+    let mut traffic = Traffic::new(seed, scene);
+    let mut table = Table::default();
+    let mut messages = 0;
+    while messages < 300 || table.ports().count() < ports {
+        let (way, message) = traffic.next(&table);
+        // A refused message changes nothing.
+        let _ = table.offer(way, &message);
+        messages += 1;
+    }
+    table.to_cells()
+}
+
+/// Sound tables: the empty one, two of the examples, and some that messages have made, a full one among them.
+fn sound_tables() -> [TableCells; 6] {
+    [
+        [0; TABLE_CELLS],
+        example("nothing"),
+        example("a virtual port with the number 0"),
+        made(1, Scene::Crowd, 16),
+        made(2, Scene::Mixed, 8),
+        made(3, Scene::Pairs, 4),
+    ]
+}
+
+/// Contents that a cell is changed to: edges of the lists, next to its own, and the ports of all records.
+fn contents(old: u32, table: &Table) -> Vec<u32> {
+    let mut contents = vec![
+        0,
+        1,
+        2,
+        3,
+        4,
+        15,
+        16,
+        17,
+        255,
+        256,
+        65535,
+        65536,
+        u32::MAX,
+        0x401,
+        0x1_0400,
+        0x0310,
+        0x0311,
+    ];
+    contents.extend([old.wrapping_add(1), old.wrapping_sub(1), old | 0x100, old ^ 0x8000_0000]);
+    contents.extend(table.ports().map(u32::from));
+    contents.sort_unstable();
+    contents.dedup();
+    contents.retain(|&content| content != old);
+    contents
+}
+
+#[test]
+fn every_cell_changed() {
+    let mut tally = TableTally::default();
+    for (index, mut cells) in sound_tables().into_iter().enumerate() {
+        let (table, messages) = table_and_messages(index as u64, &cells);
+        let ports: Vec<u8> = table.ports().chain([0, 255]).collect();
+        let mut turn = 0;
+        for cell in 0..TABLE_CELLS {
+            let (place, cell_of_record) = (cell / RECORD_CELLS, cell % RECORD_CELLS);
+            let old = cells[cell];
+            for content in contents(old, &table) {
+                turn += 1;
+                cells[cell] = content;
+                let message = |turn: usize| messages[turn % messages.len()].clone();
+                // The changed record and, in its formats, the changed one; or one in turn.
+                let own_port = cells[place * RECORD_CELLS + 1] as u8;
+                let own_mode = cell_of_record.checked_sub(RECORD_CELLS - 16);
+                let calls = Calls {
+                    port: if turn % 2 == 0 {
+                        own_port
+                    } else {
+                        ports[turn / 2 % ports.len()]
+                    },
+                    mode: own_mode.unwrap_or(turn % 17) as u8,
+                    number: turn % 3,
+                    messages: vec![message(turn), message(turn / 2 + 31)],
+                };
+                compare(&mut tally, &cells, &calls);
+            }
+            cells[cell] = old;
+        }
+    }
+    println!("every cell changed: {tally}");
+    tally.expect_offered([0], 10_000);
+    tally.expect_offered([9], 50_000);
+    tally.expect_offered(10..=16, 100);
+    tally.expect_handed_out([9], 50_000);
+    tally.expect_handed_out([0, 17], 1000);
+    tally.expect_ports(200);
+}
+
+/// The tables that are sound or not by hand, in every call.
+#[test]
+fn sound_examples() {
+    let mut tally = TableTally::default();
+    for example in SOUND {
+        let cells = example.cells();
+        let mut product = LentTable::new(&cells);
+        let nothing = [0x03, 0x00, 0x12];
+        let expected = if example.is_sound { 0 } else { 9 };
+        assert_eq!(product.port(1)[0], expected, "{}", example.name);
+        assert_eq!(product.format(1, 0)[0], expected, "{}", example.name);
+        assert_eq!(product.offer(Way::Down, &nothing), expected << 32, "{}", example.name);
+        let dataset = product.dataset(Way::Down, &nothing, 0);
+        assert_eq!(dataset[0], if example.is_sound { 17 } else { 9 }, "{}", example.name);
+        let calls = |port| Calls {
+            port,
+            mode: 1,
+            number: 0,
+            messages: vec![
+                (Way::Up, vec![0x05, 0x00, 0x04, port, 0x00]),
+                (Way::Up, vec![0x09, 0x00, 0x04, 0x20, 0x02, 0x00, 0x00, port, 11]),
+                (
+                    Way::Up,
+                    vec![0x0A, 0x00, 0x47, port, 0x02, 0x00, 0x00, 0x00, 0x00, 0x00],
+                ),
+                (Way::Up, vec![0x05, 0x00, 0x45, port, 0x02]),
+                (Way::Down, vec![0x05, 0x00, 0x61, 0x00, port]),
+            ],
+        };
+        for port in (0..20).chain([200, 254, 255]) {
+            compare(&mut tally, &cells, &calls(port));
+        }
+    }
+    println!("sound examples: {tally}");
+    tally.expect_offered([0, 9, 10, 12, 14, 15], 50);
+}
+
+/// The sound tables of above with their records in another order, and something harmed now and then.
+#[test]
+fn random_order_and_damage() {
+    let mut tally = TableTally::default();
+    let mut random = Random::new(11);
+    let bases = sound_tables().map(|cells| (cells, table_and_messages(11, &cells)));
+    for _ in 0..60_000 {
+        let (cells, (table, messages)) = &bases[random.below(bases.len())];
+        let mut cells = *cells;
+        shuffle(&mut random, &mut cells);
+        if random.once_in(2) {
+            for _ in 0..random.between(1, 4) {
+                harm(&mut random, &mut cells, table);
+            }
+        }
+        let calls = Calls {
+            port: table.ports().nth(random.below(16)).unwrap_or(3),
+            mode: random.below(17) as u8,
+            number: random.below(3),
+            messages: vec![messages[random.below(messages.len())].clone()],
+        };
+        compare(&mut tally, &cells, &calls);
+    }
+    println!("random order and damage: {tally}");
+    tally.expect_offered([0, 9], 10_000);
+    tally.expect_offered(10..=16, 100);
+    tally.expect_handed_out([0, 9, 17], 1000);
+    tally.expect_ports(500);
+}
+
+/// Puts the records in another order. Each stays as it is.
+fn shuffle(random: &mut Random, cells: &mut TableCells) {
+    for last in (1..TABLE_CELLS / RECORD_CELLS).rev() {
+        let other = random.below(last + 1);
+        for cell in 0..RECORD_CELLS {
+            cells.swap(last * RECORD_CELLS + cell, other * RECORD_CELLS + cell);
+        }
+    }
+}
+
+/// Changes a record: another number in one cell, mostly one that says what the port is or how it is set up; or the
+/// whole record, which is freed or becomes a copy of another one.
+fn harm(random: &mut Random, cells: &mut TableCells, table: &Table) {
+    let [place, other] = [random.below(16), random.below(16)].map(|place| place * RECORD_CELLS);
+    match random.below(12) {
+        0 => cells[place..][..RECORD_CELLS].fill(0),
+        1 => cells.copy_within(other..other + RECORD_CELLS, place),
+        2 => cells[place + random.below(RECORD_CELLS)] = random.number() as u32,
+        3 => {
+            let cell = random.below(RECORD_CELLS);
+            cells[place + cell] = cells[other + cell];
+        }
+        _ => {
+            let cell = place + random.one_of(&[0, 0, 1, 3, 3, 4, 5, 5, 6, 7, 8, 9, 10, 11, 12, 27]);
+            let contents = contents(cells[cell], table);
+            cells[cell] = random.one_of(&contents);
+        }
+    }
+}
+
+#[test]
+fn wrong_lengths() {
+    let messages: [&[u8]; 4] = [&[], &[0x80], &[0x03, 0x00, 0x12], &[0x04, 0x00, 0x02, 0x30]];
+    for content in [0, 1, u32::MAX] {
+        for length in [0, 1, 27, 28, 447, 449, 476, 896] {
+            let cells = vec![content; length];
+            let mut product = LentTable::new(&cells);
+            let name = format!("{length} cells with {content}");
+            assert_eq!(product.make_empty(), NOT_SOUND, "{name}");
+            assert_eq!(product.port(0)[..2], [9, 0], "{name}");
+            assert_eq!(product.format(0, 0)[..2], [9, 0], "{name}");
+            for message in messages {
+                for way in Way::BOTH {
+                    assert_eq!(product.offer(way, message), NOT_SOUND, "{name}");
+                    let refused = dataset_cells(Err(Refusal::TABLE));
+                    assert_eq!(product.dataset(way, message, 0), refused, "{name}");
+                }
+            }
+            assert_eq!(product.cells(), cells, "{name}");
+        }
+    }
+}
+
+/// Any 448 cells are made an empty table.
+#[test]
+fn empty() {
+    let mut random = Random::new(12);
+    for _ in 0..100 {
+        let cells: Vec<u32> = (0..TABLE_CELLS).map(|_| random.number() as u32).collect();
+        let mut product = LentTable::new(&cells);
+        assert_eq!(product.make_empty(), 0);
+        assert_eq!(product.cells(), Table::default().to_cells());
+    }
+}

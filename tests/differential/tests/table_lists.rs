@@ -1,0 +1,151 @@
+//! Lists of messages: after every one the product, the second program's table and the reader without a table agree.
+//! The seeds are fixed, so every run compares the same lists.
+
+#![cfg(feature = "table")]
+
+use differential::{plausible, Random, TableTally, Trio};
+use yardstick::examples::bytes;
+use yardstick::traffic::{Scene, Traffic};
+use yardstick::Way;
+
+/// The scene and the seed of each of `count` lists.
+fn lists(first_seed: u64, count: u64) -> impl Iterator<Item = (u64, Scene)> {
+    (first_seed..first_seed + count).map(|seed| (seed, Scene::ALL[seed as usize % Scene::ALL.len()]))
+}
+
+/// Hands out some datasets of a message: the first, one of any number, the last one and the one after it.
+fn hand_out_some(trio: &mut Trio, tally: &mut TableTally, random: &mut Random, way: Way, message: &[u8]) {
+    let port = message.get(3).copied().unwrap_or(0);
+    let mode = trio.table().port(port).and_then(|it| it.answered).map(|it| it.mode);
+    let format = mode.and_then(|mode| trio.table().format(port, mode));
+    let datasets = format.map_or(1, |format| usize::from(format.datasets));
+    for number in [0, random.below(18), datasets - 1, datasets] {
+        trio.hand_out(tally, way, message, number);
+    }
+}
+
+/// Short lists, with all ports compared after every message.
+#[test]
+fn short_lists() {
+    let mut tally = TableTally::default();
+    for (seed, scene) in lists(1, 48) {
+        let mut random = Random::new(!seed);
+        let mut traffic = Traffic::new(seed, scene);
+        let mut trio = Trio::default();
+        for _ in 0..80 {
+            let (way, message) = traffic.next(trio.table());
+            hand_out_some(&mut trio, &mut tally, &mut random, way, &message);
+            trio.offer(&mut tally, way, &message);
+            trio.compare_ports(&mut tally, 0..=255);
+        }
+    }
+    println!("short lists: {tally}");
+    tally.expect_offered([0], 1000);
+    tally.expect_offered(10..=16, 30);
+    tally.expect_handed_out(10..=18, 30);
+    tally.expect_ports(500);
+}
+
+/// Longer lists, with the touched ports compared after every message, and all ports now and then. Beside each message a
+/// value is asked for that isn't offered.
+#[test]
+fn long_lists() {
+    let mut tally = TableTally::default();
+    for (seed, scene) in lists(101, 160) {
+        let mut random = Random::new(!seed);
+        let mut traffic = Traffic::new(seed, scene);
+        let mut trio = Trio::default();
+        for step in 0..300 {
+            let (way, value) = traffic.value(trio.table());
+            hand_out_some(&mut trio, &mut tally, &mut random, way, &value);
+            let (way, message) = traffic.next(trio.table());
+            trio.hand_out(&mut tally, way, &message, step % 3);
+            let touched = trio.offer(&mut tally, way, &message);
+            trio.compare_ports(&mut tally, touched);
+            if step % 100 == 99 {
+                trio.compare_ports(&mut tally, 0..=255);
+            }
+        }
+    }
+    println!("long lists: {tally}");
+    tally.expect_offered([0], 20_000);
+    tally.expect_offered(2..=7, 50);
+    tally.expect_offered(10..=16, 500);
+    tally.expect_handed_out([0], 20_000);
+    tally.expect_handed_out(2..=7, 50);
+    tally.expect_handed_out(10..=18, 1000);
+    tally.expect_ports(5000);
+}
+
+/// Messages that aren't guided by what is present. Most of them are about an absent port.
+#[test]
+fn unguided_lists() {
+    let mut tally = TableTally::default();
+    let mut message = Vec::new();
+    for seed in 301..=320 {
+        let mut random = Random::new(seed);
+        let mut trio = Trio::default();
+        for _ in 0..500 {
+            let way = plausible(&mut random, &mut message);
+            // Few ports.
+            if let Some(port) = message.get_mut(3) {
+                *port &= 0x83;
+            }
+            trio.hand_out(&mut tally, way, &message, 0);
+            let touched = trio.offer(&mut tally, way, &message);
+            trio.compare_ports(&mut tally, touched);
+        }
+    }
+    println!("unguided lists: {tally}");
+    tally.expect_offered([0, 2, 3, 4, 5, 6, 7, 10], 50);
+}
+
+/// Messages about three ports: the third may be virtual, and the first is set up.
+const FEW: [(Way, &str); 14] = [
+    (Way::Up, "0F 00 04 00 01 26 00 00 00 00 10 00 00 00 10"),
+    (Way::Up, "0F 00 04 01 01 27 00 00 00 00 10 00 00 00 10"),
+    (Way::Up, "0F 00 04 02 01 28 00 00 00 00 10 00 00 00 10"),
+    (Way::Up, "09 00 04 02 02 29 00 01 00"),
+    (Way::Up, "05 00 04 00 00"),
+    (Way::Up, "05 00 04 01 00"),
+    (Way::Up, "05 00 04 02 00"),
+    (Way::Up, "04 00 02 32"),
+    (Way::Up, "0A 00 44 00 01 80 01 00 03 00"),
+    (Way::Down, "0A 00 41 00 01 00 00 00 00 01"),
+    (Way::Up, "0A 00 47 00 01 00 00 00 00 01"),
+    (Way::Up, "0A 00 47 00 01 00 00 00 00 00"),
+    (Way::Up, "0A 00 47 00 02 00 00 00 00 01"),
+    (Way::Up, "05 00 45 00 07"),
+];
+
+/// Offers every list of up to `length` of the messages, after those that were offered before.
+fn every_list(trio: &Trio, tally: &mut TableTally, messages: &[(Way, Vec<u8>)], length: usize) {
+    if length == 0 {
+        return;
+    }
+    for (way, message) in messages {
+        let mut next = trio.clone();
+        next.hand_out(tally, *way, message, 0);
+        next.offer(tally, *way, message);
+        next.compare_ports(tally, 0..=2);
+        every_list(&next, tally, messages, length - 1);
+    }
+}
+
+/// Every list of up to three of a few messages, and of up to four after two ports are there and one is asked.
+#[test]
+fn every_short_list() {
+    let mut tally = TableTally::default();
+    let messages = FEW.map(|(way, message)| (way, bytes(message)));
+    let mut trio = Trio::default();
+    every_list(&trio, &mut tally, &messages, 3);
+    for start in [0, 1, 8, 9] {
+        let (way, message) = &messages[start];
+        trio.offer(&mut tally, *way, message);
+    }
+    every_list(&trio, &mut tally, &messages, 4);
+    println!("every short list: {tally}");
+    tally.expect_offered([0, 10, 11, 12], 1000);
+    tally.expect_offered([14, 15], 300);
+    tally.expect_ports(1000);
+}

@@ -1,0 +1,143 @@
+use crate::answer::{Dataset, Format, Port, Setup, State, Value, Wiring};
+use crate::refusal::Refusal;
+use crate::way::Way;
+
+/// What is done with a table that is empty at the start.
+pub struct TableExample {
+    /// What it shows.
+    pub name: &'static str,
+    /// The steps, in their order.
+    pub steps: &'static [TableStep],
+}
+
+/// One call, with its answer.
+#[derive(Debug)]
+pub enum TableStep {
+    /// A message is offered.
+    Offer {
+        /// The message's way.
+        way: Way,
+        /// The message's bytes in hex.
+        message: &'static str,
+        /// The answer.
+        answer: Result<(), Refusal>,
+    },
+    /// A dataset of a message is handed out.
+    HandOut {
+        /// The message's way.
+        way: Way,
+        /// The message's bytes in hex.
+        message: &'static str,
+        /// The dataset's number.
+        number: usize,
+        /// The answer.
+        answer: Result<Dataset, Refusal>,
+    },
+    /// What is held about a port.
+    Port {
+        /// The port.
+        port: u8,
+        /// The answer, none for a port that isn't present.
+        answer: Option<Port>,
+    },
+    /// The format of a port's mode.
+    Format {
+        /// The port.
+        port: u8,
+        /// The mode.
+        mode: u8,
+        /// The answer, none for a format that isn't known.
+        answer: Option<Format>,
+    },
+}
+
+pub(super) const fn accepted(way: Way, message: &'static str) -> TableStep {
+    let answer = Ok(());
+    TableStep::Offer { way, message, answer }
+}
+
+pub(super) const fn refused(way: Way, message: &'static str, number: u8, place: usize) -> TableStep {
+    let answer = Err(Refusal { number, place });
+    TableStep::Offer { way, message, answer }
+}
+
+/// A dataset of a 45, which goes up.
+pub(super) const fn handed_out(
+    message: &'static str,
+    number: usize,
+    [port, mode]: [u8; 2],
+    state: State,
+    value: Value,
+) -> TableStep {
+    TableStep::HandOut {
+        way: Way::Up,
+        message,
+        number,
+        answer: Ok(Dataset {
+            port,
+            mode,
+            state,
+            value,
+        }),
+    }
+}
+
+pub(super) const fn withheld(way: Way, message: &'static str, number: usize, refusal: u8, place: usize) -> TableStep {
+    TableStep::HandOut {
+        way,
+        message,
+        number,
+        answer: Err(Refusal { number: refusal, place }),
+    }
+}
+
+/// A port of device 26 to which nothing was asked and which has answered nothing.
+pub(super) const fn bare(port: u8, wiring: Wiring) -> TableStep {
+    set_up(port, wiring, State::NothingAsked, None, None)
+}
+
+/// A port of device 26 with its setups.
+pub(super) const fn set_up(
+    port: u8,
+    wiring: Wiring,
+    state: State,
+    asked: Option<Setup>,
+    answered: Option<Setup>,
+) -> TableStep {
+    TableStep::Port {
+        port,
+        answer: Some(Port {
+            device: 0x26,
+            wiring,
+            state,
+            asked,
+            answered,
+        }),
+    }
+}
+
+pub(super) const fn absent(port: u8) -> TableStep {
+    TableStep::Port { port, answer: None }
+}
+
+pub(super) const fn format(port: u8, mode: u8, [datasets, kind, figures, decimals]: [u8; 4]) -> TableStep {
+    let answer = Some(Format {
+        datasets,
+        kind,
+        figures,
+        decimals,
+    });
+    TableStep::Format { port, mode, answer }
+}
+
+pub(super) const fn no_format(port: u8, mode: u8) -> TableStep {
+    TableStep::Format {
+        port,
+        mode,
+        answer: None,
+    }
+}
+
+pub(super) const fn setup(mode: u8, delta: u32, notify: bool) -> Option<Setup> {
+    Some(Setup { mode, delta, notify })
+}

@@ -1,0 +1,8 @@
+//! Logs of one hub's messages, and the log reader.
+
+mod reader;
+mod record;
+
+pub use reader::read_log;
+pub(crate) use record::MESSAGE_PART;
+pub use record::{log_message, log_record, LOG_RECORD};

@@ -1,0 +1,33 @@
+//! Logs to try log readers with. Equal seeds give equal logs.
+
+mod bench;
+mod devices;
+mod every;
+mod opening;
+
+use std::io::{self, BufWriter, Write};
+
+use crate::log::LOG_RECORD;
+use bench::Bench;
+use every::Every;
+
+/// Writes a log as a bench makes it: a hub with motors and sensors whose modes change now and then. In a log of a
+/// thousand records or more, at least half are accepted 45s.
+pub fn bench_log(seed: u64, records: u64, output: impl Write) -> io::Result<()> {
+    let mut bench = Bench::new(seed);
+    write_log(records, output, || bench.next_record())
+}
+
+/// Writes a log that has every form and every refusal that a log can show, if it has a hundred records or more.
+pub fn every_log(seed: u64, records: u64, output: impl Write) -> io::Result<()> {
+    let mut every = Every::new(seed);
+    write_log(records, output, || every.next_record())
+}
+
+fn write_log(records: u64, output: impl Write, mut next: impl FnMut() -> [u8; LOG_RECORD]) -> io::Result<()> {
+    let mut output = BufWriter::with_capacity(1 << 17, output);
+    for _ in 0..records {
+        output.write_all(&next())?;
+    }
+    output.flush()
+}

@@ -1,0 +1,129 @@
+use crate::form::Form;
+use crate::log::{log_record, LOG_RECORD};
+use crate::traffic::compose;
+use crate::way::Way;
+
+/// The records that a log of everything starts with: each form is accepted, and each refusal given, at least once.
+pub(super) fn opening() -> Vec<[u8; LOG_RECORD]> {
+    let mut opening = Opening::default();
+    opening.reading();
+    opening.about_the_hub();
+    opening.ports();
+    opening.mode_information();
+    opening.values();
+    opening.crowd();
+    opening.records
+}
+
+#[derive(Default)]
+struct Opening {
+    records: Vec<[u8; LOG_RECORD]>,
+}
+
+impl Opening {
+    /// Refusals 1 to 7 and 19.
+    fn reading(&mut self) {
+        self.down(&[]);
+        self.down(&[0x80]);
+        self.down(&[0x02, 0x00]);
+        self.down(&[0x03, 0x01, 0x12]);
+        self.up(&[0x03, 0x00, 0x12]);
+        self.down(&[0x03, 0x00, 0x02]);
+        self.down(&[0x04, 0x00, 0x02, 0x07]);
+        // Direction 2, each zero that isn't, and a byte after the message.
+        for place in [4, 5, 6, 7, 11, 135] {
+            let mut record = log_record(0, Way::Down, &[0x03, 0x00, 0x12]);
+            record[place] = 2;
+            self.records.push(record);
+        }
+    }
+
+    fn about_the_hub(&mut self) {
+        self.sent_down(Form::PropertyCommand, &[1, 5]);
+        self.sent_up_open(Form::PropertyText, &[1, 6], b"Bench hub");
+        self.sent_up(Form::PropertyByte, &[6, 6, 100]);
+        self.sent_up(Form::PropertyRssi, &[5, 6, -60_i64 as u64]);
+        self.sent_up(Form::PropertyVersion, &[3, 6, 0x1737_1510]);
+        self.sent_up(Form::PropertyProtocol, &[10, 6, 0x0300]);
+        self.sent_up(Form::PropertyAddress, &[13, 6, 0x0016_53A1_B2C3]);
+        self.sent_down(Form::HubAction, &[5]);
+        self.sent_down(Form::AlertCommand, &[1, 3]);
+        self.sent_up(Form::AlertUpdate, &[1, 4, 0xFF]);
+        self.sent_up(Form::GenericError, &[0x41, 5]);
+        self.sent_down(Form::GoIntoBootMode, &[]);
+        self.sent_down(Form::LockMemory, &[]);
+        self.sent_down(Form::LockStatusRequest, &[]);
+        self.sent_up(Form::LockStatus, &[0xFF]);
+    }
+
+    /// Refusals 10, 11 and 12 too.
+    fn ports(&mut self) {
+        self.sent_up(Form::Detached, &[0, 0]); // 10
+        self.attach(0);
+        self.attach(1);
+        self.attach(1); // 11
+        self.sent_down(Form::VirtualConnect, &[1, 0, 1]);
+        self.sent_up(Form::AttachedVirtual, &[16, 2, 0x26, 0, 0]); // 12
+        self.sent_up(Form::AttachedVirtual, &[16, 2, 0x26, 0, 1]);
+        self.sent_down(Form::VirtualDisconnect, &[0, 16]);
+        self.sent_up(Form::Detached, &[16, 0]);
+        self.sent_down(Form::PortInformationRequest, &[0, 1]);
+        self.sent_up(Form::PortModes, &[0, 1, 7, 4, 15, 15]);
+        self.sent_up(Form::PortCombinations, &[0, 2, 1, 3, 0, 0, 0, 0, 0, 0, 0]);
+    }
+
+    fn mode_information(&mut self) {
+        self.sent_down(Form::ModeInformationRequest, &[0, 2, 0]);
+        self.sent_up_open(Form::ModeText, &[0, 2, 0], b"FORCE");
+        self.sent_up(Form::ModeRange, &[0, 2, 3, 0, 0x4348_0000]);
+        self.sent_up(Form::ModeMapping, &[0, 2, 5, 0x0010]);
+        self.sent_up(Form::ModeBias, &[0, 2, 7, 0]);
+        self.sent_up(Form::ModeCapabilities, &[0, 2, 8, 0x40]);
+    }
+
+    /// Refusals 14, 15, 16 and 18 too.
+    fn values(&mut self) {
+        let [one, nan] = [1.0_f32, f32::NAN].map(f32::to_le_bytes);
+        self.sent_up_open(Form::PortValue, &[0], &one); // 14
+        self.sent_down(Form::InputFormatSetup, &[0, 2, 1, 1]);
+        self.sent_up(Form::InputFormat, &[0, 2, 1, 1]);
+        self.sent_up_open(Form::PortValue, &[0], &one); // 15
+        self.sent_up(Form::ValueFormat, &[0, 2, 0x80, 1, 3, 8, 3]);
+        self.sent_up_open(Form::PortValue, &[0], &one[..3]); // 16
+        self.sent_up_open(Form::PortValue, &[0], &one);
+        self.sent_up_open(Form::PortValue, &[0], &nan); // 18
+    }
+
+    /// Refusal 13 too, and a notice that empties the table.
+    fn crowd(&mut self) {
+        (2..=15).for_each(|port| self.attach(port));
+        self.attach(20); // 13
+        self.sent_up(Form::Detached, &[7, 0]);
+        self.attach(20);
+        self.sent_up(Form::HubAction, &[0x31]);
+    }
+
+    fn attach(&mut self, port: u64) {
+        self.sent_up(Form::Attached, &[port, 1, 0x26, 0x1000_0000, 0x1000_0000]);
+    }
+
+    fn sent_up(&mut self, form: Form, values: &[u64]) {
+        self.sent_up_open(form, values, &[]);
+    }
+
+    fn sent_up_open(&mut self, form: Form, values: &[u64], open: &[u8]) {
+        self.up(&compose(Way::Up, form, values, open));
+    }
+
+    fn sent_down(&mut self, form: Form, values: &[u64]) {
+        self.down(&compose(Way::Down, form, values, &[]));
+    }
+
+    fn up(&mut self, message: &[u8]) {
+        self.records.push(log_record(0, Way::Up, message));
+    }
+
+    fn down(&mut self, message: &[u8]) {
+        self.records.push(log_record(0, Way::Down, message));
+    }
+}

@@ -1,0 +1,37 @@
+use super::message::{attaches, ends, members, port};
+use super::MessageList;
+
+impl MessageList {
+    /// Where the attachment stands in the list by which a port is present: its latest, unless an ending follows.
+    pub(super) fn attachment(&self, port: u64) -> Option<usize> {
+        let latest = self.accepted.iter().rposition(|message| attaches(message, port))?;
+        let attachment = &self.accepted[latest];
+        let is_over = self.accepted[latest + 1..]
+            .iter()
+            .any(|message| ends(message, attachment));
+        (!is_over).then_some(latest)
+    }
+
+    pub(super) fn is_present(&self, port: u64) -> bool {
+        self.attachment(port).is_some()
+    }
+
+    /// Whether a port is present and its attachment was plain.
+    pub(super) fn is_physical(&self, port: u64) -> bool {
+        self.attachment(port)
+            .is_some_and(|place| members(&self.accepted[place]).is_none())
+    }
+
+    /// The virtual port that is present and names a port.
+    pub(super) fn partner(&self, member: u64) -> Option<u64> {
+        let names = |place: &usize| members(&self.accepted[*place]).is_some_and(|members| members.contains(&member));
+        let stands = |place: &usize| self.attachment(port(&self.accepted[*place])) == Some(*place);
+        let place = (0..self.accepted.len()).rev().filter(names).find(stands)?;
+        Some(port(&self.accepted[place]))
+    }
+
+    /// How many ports are present.
+    pub(super) fn ports_present(&self) -> usize {
+        (0..=255).filter(|&port| self.is_present(port)).count()
+    }
+}

@@ -1,0 +1,83 @@
+use crate::random::Random;
+
+/// What a list of messages is mostly about.
+#[derive(Clone, Copy, Debug, PartialEq, Eq)]
+pub enum Scene {
+    /// Few ports, which are joined and pulled apart.
+    Pairs,
+    /// More ports than places.
+    Crowd,
+    /// Few ports, which are set up and send values.
+    Values,
+    /// All of it.
+    Mixed,
+}
+
+/// The sorts of messages in a list.
+#[derive(Clone, Copy)]
+pub(super) enum Sort {
+    Attach,
+    AttachVirtual,
+    Detach,
+    Format,
+    Ask,
+    Answer,
+    Value,
+    Setup,
+    Information,
+    Notice,
+    Any,
+}
+
+impl Scene {
+    /// Every scene.
+    pub const ALL: [Scene; 4] = [Scene::Pairs, Scene::Crowd, Scene::Values, Scene::Mixed];
+
+    /// How many ports the messages name, as a rule.
+    pub(super) fn ports(self) -> usize {
+        match self {
+            Scene::Pairs => 6,
+            Scene::Crowd => 22,
+            Scene::Values => 3,
+            Scene::Mixed => 10,
+        }
+    }
+
+    /// The sort of the next message.
+    pub(super) fn sort(self, random: &mut Random) -> Sort {
+        let shares = self.shares();
+        let mut number = random.below(shares.iter().map(|&(_, share)| share).sum());
+        for (sort, share) in shares {
+            if number < share {
+                return sort;
+            }
+            number -= share;
+        }
+        unreachable!("the number is below the sum of the shares")
+    }
+
+    /// How often each sort comes.
+    fn shares(self) -> [(Sort, usize); 11] {
+        use Sort::*;
+        let shares = match self {
+            Scene::Pairs => [30, 30, 12, 6, 6, 6, 14, 12, 4, 1, 4],
+            Scene::Crowd => [60, 16, 8, 4, 4, 4, 8, 6, 4, 0, 4],
+            Scene::Values => [8, 2, 1, 20, 16, 20, 60, 2, 4, 0, 4],
+            Scene::Mixed => [20, 12, 6, 16, 14, 16, 40, 8, 8, 1, 8],
+        };
+        let sorts = [
+            Attach,
+            AttachVirtual,
+            Detach,
+            Format,
+            Ask,
+            Answer,
+            Value,
+            Setup,
+            Information,
+            Notice,
+            Any,
+        ];
+        std::array::from_fn(|index| (sorts[index], shares[index]))
+    }
+}

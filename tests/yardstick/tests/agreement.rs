@@ -1,0 +1,97 @@
+//! The table and the reader without a table agree after every message of many lists. The seeds are fixed.
+
+use yardstick::traffic::{Scene, Traffic};
+use yardstick::{MessageList, Refusal, Table, Way};
+
+/// A list followed by both, with counts of the answers.
+#[derive(Default)]
+struct Both {
+    table: Table,
+    list: MessageList,
+    /// How often each number came, 0 for acceptance.
+    numbers: [u64; 20],
+}
+
+impl Both {
+    fn start(&mut self) {
+        self.table = Table::default();
+        self.list = MessageList::default();
+    }
+
+    fn count<T>(&mut self, answer: Result<T, Refusal>) {
+        let number = answer.err().map_or(0, |refusal| refusal.number);
+        self.numbers[usize::from(number)] += 1;
+    }
+
+    fn hand_out(&mut self, way: Way, message: &[u8], number: usize) {
+        let answer = self.table.hand_out(way, message, number);
+        let by_list = self.list.hand_out(way, message, number);
+        assert_eq!(by_list, answer, "dataset {number} of {message:02X?} {way:?}");
+        self.count(answer);
+    }
+
+    fn offer(&mut self, way: Way, message: &[u8]) {
+        for number in [0, 1, 15] {
+            self.hand_out(way, message, number);
+        }
+        let answer = self.table.offer(way, message);
+        assert_eq!(self.list.push(way, message), answer, "{message:02X?} {way:?}");
+        self.count(answer);
+    }
+
+    fn compare_ports(&self, ports: impl Iterator<Item = u8>) {
+        for port in ports {
+            assert_eq!(self.list.port(port), self.table.port(port), "port {port}");
+            for mode in 0..=16 {
+                let format = self.table.format(port, mode);
+                assert_eq!(self.list.format(port, mode), format, "port {port}, mode {mode}");
+            }
+        }
+    }
+
+    fn expect_often(&self, name: &str, least: u64) {
+        println!("{name}: {:?}", self.numbers);
+        for number in 10..=18 {
+            let seen = self.numbers[number];
+            assert!(seen >= least, "{number} came {seen} times, not {least}");
+        }
+        assert!(
+            self.numbers[1..=7].iter().all(|&seen| seen >= 50),
+            "a refusal of reading is rare"
+        );
+    }
+}
+
+#[test]
+fn short_lists() {
+    let mut both = Both::default();
+    for seed in 0..400 {
+        both.start();
+        let mut traffic = Traffic::new(seed, Scene::ALL[seed as usize % 4]);
+        for _ in 0..60 {
+            let (way, message) = traffic.next(&both.table);
+            both.offer(way, &message);
+            both.compare_ports(0..=255);
+        }
+    }
+    both.expect_often("short lists", 100);
+}
+
+#[test]
+fn long_lists() {
+    let mut both = Both::default();
+    for seed in 1000..1040 {
+        both.start();
+        let mut traffic = Traffic::new(seed, Scene::ALL[seed as usize % 4]);
+        for step in 0..800 {
+            let (way, message) = traffic.next(&both.table);
+            both.offer(way, &message);
+            let (way, message) = traffic.value(&both.table);
+            both.hand_out(way, &message, step % 3);
+            if step % 50 == 0 {
+                both.compare_ports(0..=255);
+            }
+        }
+    }
+    both.expect_often("long lists", 1000);
+}

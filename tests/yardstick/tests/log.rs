@@ -1,0 +1,210 @@
+//! The log reader prints what it has to print.
+
+use std::io::{self, Read, Write};
+
+use yardstick::examples::bytes;
+use yardstick::{log_record, read_log, Way, LOG_RECORD};
+
+/// The log example of the rules.
+const EXAMPLE: [(Way, &str); 6] = [
+    (Way::Up, "0F 00 04 00 01 26 00 00 00 00 10 00 00 00 10"),
+    (Way::Up, "0A 00 44 00 02 80 01 02 04 00"),
+    (Way::Up, "08 00 45 00 05 00 00 00"),
+    (Way::Down, "0A 00 41 00 02 01 00 00 00 01"),
+    (Way::Up, "0A 00 47 00 02 01 00 00 00 01"),
+    (Way::Up, "08 00 45 00 05 00 00 00"),
+];
+
+const EXAMPLE_LINES: &str = "1 0\n2 0\n3 14\n4 0\n5 0\n6 0 0 2 2 5\ntotal 6 refused 1\n";
+
+fn log(messages: &[(Way, &str)]) -> Vec<u8> {
+    let record = |&(way, message): &(Way, &str)| log_record(0x0102_0304, way, &bytes(message));
+    messages.iter().flat_map(record).collect()
+}
+
+fn printed(log: &[u8]) -> String {
+    let mut output = Vec::new();
+    read_log(log, &mut output).expect("reading from memory");
+    String::from_utf8(output).expect("lines are text")
+}
+
+#[test]
+fn example() {
+    assert_eq!(printed(&log(&EXAMPLE)), EXAMPLE_LINES);
+}
+
+#[test]
+fn nothing() {
+    assert_eq!(printed(&[]), "total 0 refused 0\n");
+}
+
+/// An input that gives few bytes at a time and is interrupted, and an output that takes few.
+struct Slow<T> {
+    inner: T,
+    calls: usize,
+}
+
+impl<T> Slow<T> {
+    fn new(inner: T) -> Slow<T> {
+        Slow { inner, calls: 0 }
+    }
+
+    /// How many bytes this call may pass on.
+    fn allowed(&mut self) -> io::Result<usize> {
+        self.calls += 1;
+        match self.calls % 5 {
+            0 => Err(io::ErrorKind::Interrupted.into()),
+            rest => Ok(rest * 7),
+        }
+    }
+}
+
+impl<T: Read> Read for Slow<T> {
+    fn read(&mut self, buffer: &mut [u8]) -> io::Result<usize> {
+        let allowed = self.allowed()?.min(buffer.len());
+        self.inner.read(&mut buffer[..allowed])
+    }
+}
+
+impl<T: Write> Write for Slow<T> {
+    fn write(&mut self, buffer: &[u8]) -> io::Result<usize> {
+        let allowed = self.allowed()?.min(buffer.len());
+        self.inner.write(&buffer[..allowed])
+    }
+
+    fn flush(&mut self) -> io::Result<()> {
+        self.inner.flush()
+    }
+}
+
+#[test]
+fn example_in_small_pieces() {
+    let log = log(&EXAMPLE);
+    let mut output = Vec::new();
+    read_log(Slow::new(&log[..]), Slow::new(&mut output)).expect("reading from memory");
+    assert_eq!(String::from_utf8_lossy(&output), EXAMPLE_LINES);
+}
+
+#[test]
+fn errors_are_passed_on() {
+    struct Broken;
+    impl Read for Broken {
+        fn read(&mut self, _: &mut [u8]) -> io::Result<usize> {
+            Err(io::ErrorKind::BrokenPipe.into())
+        }
+    }
+    impl Write for Broken {
+        fn write(&mut self, _: &[u8]) -> io::Result<usize> {
+            Err(io::ErrorKind::BrokenPipe.into())
+        }
+        fn flush(&mut self) -> io::Result<()> {
+            Err(io::ErrorKind::BrokenPipe.into())
+        }
+    }
+    let error = |result: io::Result<()>| result.map_err(|error| error.kind());
+    assert_eq!(error(read_log(Broken, Vec::new())), Err(io::ErrorKind::BrokenPipe));
+    assert_eq!(error(read_log(&[][..], Broken)), Err(io::ErrorKind::BrokenPipe));
+}
+
+/// A last piece of every size under a record's is one more line, and counts in both totals.
+#[test]
+fn short_last_piece() {
+    let log = log(&EXAMPLE);
+    for size in 1..LOG_RECORD {
+        let text = printed(&log[..LOG_RECORD + size]);
+        assert_eq!(text, "1 0\n2 19\ntotal 2 refused 1\n", "{size} bytes");
+        // Even if the piece is zeros.
+        assert_eq!(printed(&vec![0; size]), "1 19\ntotal 1 refused 1\n", "{size} bytes");
+    }
+}
+
+fn refusal_of(record: &[u8; LOG_RECORD]) -> String {
+    let text = printed(record);
+    let line = text.lines().next().expect("a line for the record");
+    line.strip_prefix("1 ").expect("the record's number").to_owned()
+}
+
+/// Each byte of a record changed: the time may be any; direction, zeros and the bytes after the message may not.
+#[test]
+fn malformed_records() {
+    let record = log_record(u32::MAX, Way::Down, &[0x03, 0x00, 0x12]);
+    assert_eq!(refusal_of(&record), "0");
+    for place in 0..LOG_RECORD {
+        for content in [1, 2, 3, 0x80, 0xFF] {
+            let mut changed = record;
+            changed[place] = content;
+            let expected = match (place, content) {
+                (0..=3, _) => "0",
+                (4, 1) => "5",
+                // The length: what follows a shorter message isn't zeros.
+                (8, 1 | 2) => "19",
+                (8, 3) => "0",
+                (8, 0x80 | 0xFF) => "2",
+                (9, _) => "4",
+                (10, 1 | 3) => "6",
+                (10, 2) => "6",
+                (10, _) => "5",
+                _ => "19",
+            };
+            assert_eq!(refusal_of(&changed), expected, "{content} at {place}");
+        }
+    }
+}
+
+/// 19 is tested before anything about the message.
+#[test]
+fn malformed_records_with_refused_messages() {
+    for message in ["", "01", "80", "03 01 12", "03 00 02", "05 00 04 00 00"] {
+        let record = log_record(0, Way::Up, &bytes(message));
+        assert_ne!(refusal_of(&record), "19", "`{message}`");
+        for place in [4, 5, 6, 7] {
+            let mut changed = record;
+            changed[place] = 2;
+            assert_eq!(refusal_of(&changed), "19", "`{message}`, byte {place}");
+        }
+    }
+}
+
+#[test]
+fn lengths() {
+    // No message: 1, unless a byte follows.
+    let mut record = log_record(0, Way::Up, &[]);
+    assert_eq!(refusal_of(&record), "1");
+    record[135] = 1;
+    assert_eq!(refusal_of(&record), "19");
+    // Lengths under 3.
+    assert_eq!(refusal_of(&log_record(0, Way::Up, &[1])), "3");
+    assert_eq!(refusal_of(&log_record(0, Way::Up, &[2, 1])), "3");
+    // The longest message has one byte after it.
+    let mut message = [0x41; 127];
+    message[..5].copy_from_slice(&[127, 0, 0x01, 8, 6]);
+    let mut record = log_record(0, Way::Up, &message);
+    assert_eq!(refusal_of(&record), "0");
+    record[135] = 1;
+    assert_eq!(refusal_of(&record), "19");
+    // From 128 on all bytes are the message, whatever they are.
+    for length in [128, 129, 255] {
+        record[8] = length;
+        assert_eq!(refusal_of(&record), "2");
+    }
+}
+
+/// Floats are printed as their bits. The line of a value with a NaN is 18, and counts as refused.
+#[test]
+fn floats() {
+    let messages = [
+        (Way::Up, "0F 00 04 FF 01 26 00 00 00 00 10 00 00 00 10"),
+        (Way::Up, "0A 00 44 FF 0F 80 02 03 04 00"),
+        (Way::Up, "0A 00 47 FF 0F 01 00 00 00 01"),
+        (Way::Up, "0C 00 45 FF 00 00 80 BF FF FF 7F 7F"),
+        (Way::Up, "0C 00 45 FF 00 00 80 3F 00 00 80 7F"),
+        (Way::Up, "0C 00 45 FF 00 00 C0 7F 00 00 80 3F"),
+        (Way::Down, "0A 00 41 FF 0F 01 00 00 00 01"),
+        (Way::Up, "0C 00 45 FF 00 00 00 00 00 00 00 80"),
+    ];
+    assert_eq!(
+        printed(&log(&messages)),
+        "1 0\n2 0\n3 0\n4 0 255 15 0 3212836864 2139095039\n5 18\n6 18\n7 0\n8 0 255 15 1 0 2147483648\n\
+         total 8 refused 2\n"
+    );
+}

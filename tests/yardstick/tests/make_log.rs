@@ -1,0 +1,105 @@
+//! The logs that are made are what they say.
+
+use std::collections::BTreeSet;
+
+use yardstick::make_log::{bench_log, every_log};
+use yardstick::{decode, log_message, read_log, Form, Table, LOG_RECORD};
+
+fn bench(seed: u64, records: u64) -> Vec<u8> {
+    let mut log = Vec::new();
+    bench_log(seed, records, &mut log).expect("writing to memory");
+    log
+}
+
+fn every(seed: u64, records: u64) -> Vec<u8> {
+    let mut log = Vec::new();
+    every_log(seed, records, &mut log).expect("writing to memory");
+    log
+}
+
+/// The lines that the log reader prints, as numbers, without the totals.
+fn lines(log: &[u8]) -> Vec<Vec<u64>> {
+    let mut output = Vec::new();
+    read_log(log, &mut output).expect("reading from memory");
+    let text = String::from_utf8(output).expect("lines are text");
+    let mut lines: Vec<&str> = text.lines().collect();
+    let totals = lines.pop().expect("totals");
+    let numbers = |line: &&str| line.split(' ').map(|it| it.parse().expect("a number")).collect();
+    let lines: Vec<Vec<u64>> = lines.iter().map(numbers).collect();
+    let refused = lines.iter().filter(|line| line[1] != 0).count();
+    assert_eq!(totals, format!("total {} refused {refused}", lines.len()));
+    lines
+}
+
+#[test]
+fn equal_seeds_give_equal_logs() {
+    for make in [bench, every] {
+        assert_eq!(make(7, 3000), make(7, 3000));
+        assert_ne!(make(7, 3000), make(8, 3000));
+        // A shorter log is the start of a longer one.
+        assert_eq!(make(7, 1000), make(7, 3000)[..1000 * LOG_RECORD]);
+        assert!(make(7, 0).is_empty());
+    }
+}
+
+#[test]
+fn half_of_a_bench_log_is_accepted_values() {
+    for (seed, records) in [(1, 1000), (2, 1000), (3, 2000), (4, 50_000), (5, 200_000)] {
+        let lines = lines(&bench(seed, records));
+        assert_eq!(lines.len() as u64, records);
+        let values = lines.iter().filter(|line| line.len() > 2).count();
+        assert!(values as u64 * 2 >= records, "{values} of {records} with seed {seed}");
+    }
+}
+
+#[test]
+fn a_bench_log_is_mixed() {
+    let lines = lines(&bench(6, 200_000));
+    let values = lines.iter().filter(|line| line.len() > 2);
+    let ports: BTreeSet<u64> = values.clone().map(|line| line[2]).collect();
+    let modes: BTreeSet<[u64; 2]> = values.clone().map(|line| [line[2], line[3]]).collect();
+    let states: BTreeSet<u64> = values.clone().map(|line| line[4]).collect();
+    let sizes: BTreeSet<usize> = values.map(|line| line.len() - 5).collect();
+    let refusals: BTreeSet<u64> = lines.iter().map(|line| line[1]).filter(|&it| it != 0).collect();
+    println!("ports {ports:?}, modes {modes:?}, states {states:?}, datasets {sizes:?}, refusals {refusals:?}");
+    assert!(ports.len() >= 8);
+    assert!(modes.len() >= 18);
+    assert!(states.is_superset(&[1, 2, 3].into()));
+    assert!(sizes.is_superset(&[1, 2, 3, 4, 6].into()));
+    assert!(refusals.is_superset(&[10, 14, 16].into()));
+    let refused = lines.iter().filter(|line| line[1] != 0).count();
+    assert!(refused * 100 < lines.len(), "{refused} refused");
+}
+
+/// The forms of the messages that are accepted, those of lines refused as 18 among them.
+fn forms(log: &[u8]) -> BTreeSet<u8> {
+    let mut table = Table::default();
+    let mut forms = BTreeSet::new();
+    for record in log.chunks(LOG_RECORD) {
+        if let Ok((way, message)) = log_message(record) {
+            if table.offer(way, message).is_ok() {
+                let decoded = decode(way, message).expect("an accepted message");
+                forms.insert(decoded.form.number());
+            }
+        }
+    }
+    forms
+}
+
+#[test]
+fn every_form_and_refusal() {
+    let all: BTreeSet<u64> = [0, 1, 2, 3, 4, 5, 6, 7, 10, 11, 12, 13, 14, 15, 16, 18, 19].into();
+    for (seed, records) in [(1, 100), (2, 5000)] {
+        let log = every(seed, records);
+        let lines = lines(&log);
+        assert_eq!(lines.len() as u64, records);
+        let refusals: BTreeSet<u64> = lines.iter().map(|line| line[1]).collect();
+        assert_eq!(refusals, all, "{records} records");
+        assert_eq!(forms(&log).len(), Form::COUNT, "{records} records");
+    }
+    // The random part has them all on its own.
+    let log = every(3, 30_000);
+    let random_part = &lines(&log)[100..];
+    let refusals: BTreeSet<u64> = random_part.iter().map(|line| line[1]).collect();
+    assert_eq!(refusals, all);
+}
