@@ -14,6 +14,11 @@ ghost use Rattle.protocol.specs.Form as Form;
 ghost use Rattle.protocol.specs.Decode.{decodeForm};
 ghost use Rattle.protocol.specs.Answer.{answerOf};
 
+// The safety strings, which reading compares with and writing writes.
+pub const BOOT_STRING: [u8; 9] = *b"LPF2-Boot";
+
+pub const LOCK_STRING: [u8; 8] = *b"Lock Mem";
+
 // The index of the first byte of `text` that differs from the byte of `s` opposite to it, counted
 // from `at`; the length of `text` where none does.
 fn first_difference(s: &[u8], at: usize, text: &[u8]) -> usize
@@ -37,7 +42,7 @@ pub fn go_into_boot_mode(s: &[u8]) -> Reading
     if s.len() != 12 {
         return wrong_size();
     }
-    let i = first_difference(s, 3, b"LPF2-Boot");
+    let i = first_difference(s, 3, &BOOT_STRING);
     if i < 9 {
         return outside((3 + i) as u16);
     }
@@ -51,7 +56,7 @@ pub fn lock_memory(s: &[u8]) -> Reading
     if s.len() != 11 {
         return wrong_size();
     }
-    let i = first_difference(s, 3, b"Lock Mem");
+    let i = first_difference(s, 3, &LOCK_STRING);
     if i < 8 {
         return outside((3 + i) as u16);
     }

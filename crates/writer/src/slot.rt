@@ -1,4 +1,6 @@
 // One field of a message with its value, and its bytes.
+use hub_messages::firmware::BOOT_STRING;
+use hub_messages::firmware::LOCK_STRING;
 use hub_messages::rule::between;
 use hub_messages::rule::is_alert_status;
 use hub_messages::rule::is_information_type;
@@ -183,7 +185,7 @@ pub(crate) fn put_slot(out: &mut [u8], at: usize, slot: Slot)
         Slot::SignedLong(value) => put_low(out, at, 4, i32_bits(value)),
         Slot::HighFirst(value) => put_high(out, at, value),
         Slot::Float(x) => put_low(out, at, 4, f32::to_bits(x) as u64),
-        Slot::BootString => put_bytes(out, at, b"LPF2-Boot"),
-        Slot::LockString => put_bytes(out, at, b"Lock Mem"),
+        Slot::BootString => put_bytes(out, at, &BOOT_STRING),
+        Slot::LockString => put_bytes(out, at, &LOCK_STRING),
     }
 }
