@@ -1,6 +1,5 @@
 pub mod Cells
 pub mod OpenPart
-pub mod Signed
 pub mod Settled
 pub mod Built
 pub mod Same

@@ -1,8 +1,7 @@
 -- The answer of a writing as one number.
 use Prim.Native.Nat.{ℕ, _+_, _*_}
 use native.Mathlib.Omega.{arith}
-use mathlib.Core.Path.{_≡_, refl}
-use lib.ListN.{length}
+use mathlib.Core.Path.{_≡_}
 use Rattle.protocol.specs.Encode.{Encoded, encoded, refused}
 use Rattle.writer.specs.Writing.{writtenOf}
 use Rattle.protocol.specs.declared.Written.{Written}

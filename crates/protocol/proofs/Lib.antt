@@ -15,3 +15,4 @@ pub mod FixedString
 pub mod Table
 pub mod Bits
 pub mod Bytes
+pub mod Unsigned

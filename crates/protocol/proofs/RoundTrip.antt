@@ -13,7 +13,7 @@ use Rattle.protocol.specs.Number.{Bytes}
 use Rattle.protocol.specs.Field.{Field, Value, natural, Fields, values, widths, andThen, readFields}
 use Rattle.protocol.specs.Field as Field'
 use Rattle.protocol.specs.Form
-use Rattle.protocol.specs.Form.{Form, layout, longestModeText, fits, readRest, openBytes, code, formNumber, argument, sameForm}
+use Rattle.protocol.specs.Form.{Form, layout, longestModeText, fits, readRest, openBytes, code, formNumber, formsBy, argument, sameForm}
 use Rattle.protocol.specs.Properties.{longest}
 use Rattle.protocol.specs.Types.{Selection, always, select, MessageType, types, typeOf}
 use Rattle.protocol.specs.Decode.{Answer, accepted, header, valuesOrRefusal, decodeForm, decodeSelection, decodeType, decodeTyped, decodeWay, decode, openOf, openPart}
@@ -93,46 +93,7 @@ form-is g s f vs e =
     go (Field'.outside at) k = let z : _≡_ {A = ℕ} 0 1 = cc in absurd (omega arith)
     go (values us) k = cc
 
--- forms by their number and argument
-abbrev forms : ℕ → List Form
-forms a =
-    Form.lockStatusRequest
-    ∷ Form.propertyCommand
-    ∷ (Form.propertyText a)
-    ∷ (Form.propertyByte a)
-    ∷ Form.propertyRssi
-    ∷ Form.propertyVersion
-    ∷ Form.propertyProtocol
-    ∷ Form.propertyAddress
-    ∷ Form.hubAction
-    ∷ Form.alertCommand
-    ∷ Form.alertUpdate
-    ∷ Form.detached
-    ∷ Form.attached
-    ∷ Form.attachedVirtual
-    ∷ Form.genericError
-    ∷ Form.goIntoBootMode
-    ∷ Form.lockMemory
-    ∷ Form.lockStatusRequest
-    ∷ Form.lockStatus
-    ∷ Form.portInformationRequest
-    ∷ Form.modeInformationRequest
-    ∷ Form.inputFormatSetup
-    ∷ Form.portModes
-    ∷ Form.portCombinations
-    ∷ (Form.modeText a)
-    ∷ Form.modeRange
-    ∷ Form.modeMapping
-    ∷ Form.modeBias
-    ∷ Form.modeCapabilities
-    ∷ Form.valueFormat
-    ∷ Form.portValue
-    ∷ Form.inputFormat
-    ∷ Form.virtualDisconnect
-    ∷ Form.virtualConnect
-    ∷ []
-
-form-back : (f : Form) → getD (forms (argument f)) (formNumber f) Form.lockStatusRequest ≡ f
+form-back : (f : Form) → getD (formsBy (argument f)) (formNumber f) Form.lockStatusRequest ≡ f
 form-back Form.propertyCommand = refl
 form-back (Form.propertyText a) = refl
 form-back (Form.propertyByte a) = refl
@@ -174,7 +135,7 @@ form-same : (f g : Form) → sameForm f g ≡ true → f ≡ g
 form-same f g e =
     let n : formNumber f ≡ formNumber g = eqb-true (formNumber f) (formNumber g) (and-left (eqb (formNumber f) (formNumber g)) (eqb (argument f) (argument g)) e) in
     let a : argument f ≡ argument g = eqb-true (argument f) (argument g) (and-right (eqb (formNumber f) (formNumber g)) (eqb (argument f) (argument g)) e) in
-    sym (form-back f) ∙ ap (λ (k : ℕ). getD (forms (argument f)) k Form.lockStatusRequest) n ∙ ap (λ (k : ℕ). getD (forms k) (formNumber g) Form.lockStatusRequest) a ∙ form-back g
+    sym (form-back f) ∙ ap (λ (k : ℕ). getD (formsBy (argument f)) k Form.lockStatusRequest) n ∙ ap (λ (k : ℕ). getD (formsBy k) (formNumber g) Form.lockStatusRequest) a ∙ form-back g
 
 -- the selectors that reading followed lead writing to the same form
 record Chosen (c k : ℕ) (sel : Selection) (s : List ℕ) (f : Form) (vs : List Value) : Type 0 where

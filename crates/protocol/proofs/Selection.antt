@@ -1,15 +1,14 @@
 -- A type with a selector: what its value leads to.
 use Prim.Native.Nat.{ℕ, _+_, _≤_, _<_}
 use mathlib.Core.Path.{_≡_}
-use mathlib.Core.Bool.{true, false, cond}
+use mathlib.Core.Bool.{true, false}
 use mathlib.Core.List.{List}
 use borrow.Author.Tests.{le-ltb, lt-ltb}
 use lib.Dec.{eqb, leb, ltb}
 use lib.ListN.{length, getD}
-use Rattle.protocol.specs.Rule.{Rule}
-use Rattle.protocol.specs.Types.{Selection, select, MessageType, types, typeOf}
+use Rattle.protocol.specs.Types.{MessageType, types, typeOf}
 use Rattle.protocol.specs.declared.Way.{Way}
-use Rattle.protocol.specs.Decode.{refused, wrongSize, header, decodeSelection, decodeType, decodeTyped, decodeWay, decode}
+use Rattle.protocol.specs.Decode.{wrongSize, header, decodeSelection, decodeType, decodeTyped, decodeWay, decode}
 
 -- too short for its selectors
 pub too-short : (t : MessageType) (s : List ℕ) → length s < header + t .selectors → decodeType t s ≡ wrongSize

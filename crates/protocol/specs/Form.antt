@@ -152,6 +152,45 @@ argument inputFormat = 0
 argument virtualDisconnect = 0
 argument virtualConnect = 0
 
+-- the forms by their numbers and argument; no form has number 0
+abbrev pub formsBy : ℕ → List Form
+formsBy a =
+    lockStatusRequest
+    ∷ propertyCommand
+    ∷ (propertyText a)
+    ∷ (propertyByte a)
+    ∷ propertyRssi
+    ∷ propertyVersion
+    ∷ propertyProtocol
+    ∷ propertyAddress
+    ∷ hubAction
+    ∷ alertCommand
+    ∷ alertUpdate
+    ∷ detached
+    ∷ attached
+    ∷ attachedVirtual
+    ∷ genericError
+    ∷ goIntoBootMode
+    ∷ lockMemory
+    ∷ lockStatusRequest
+    ∷ lockStatus
+    ∷ portInformationRequest
+    ∷ modeInformationRequest
+    ∷ inputFormatSetup
+    ∷ portModes
+    ∷ portCombinations
+    ∷ (modeText a)
+    ∷ modeRange
+    ∷ modeMapping
+    ∷ modeBias
+    ∷ modeCapabilities
+    ∷ valueFormat
+    ∷ portValue
+    ∷ inputFormat
+    ∷ virtualDisconnect
+    ∷ virtualConnect
+    ∷ []
+
 abbrev pub sameForm : Form → Form → Bool
 sameForm f g = eqb (formNumber f) (formNumber g) && eqb (argument f) (argument g)
 

@@ -1,25 +1,20 @@
 -- An accepted message keeps a sound table sound.
-use Prim.Native.Nat.{ℕ, zero, suc, _≤_, _<_}
+use Prim.Native.Nat.{ℕ}
 use mathlib.Core.Path.{_≡_, refl, sym, _∙_, ap}
-use mathlib.Core.Bool.{Bool, true, false, cond, not, _&&_, _||_}
-use mathlib.Core.List.{List, [], _∷_, map}
+use mathlib.Core.Bool.{Bool, true, false, cond}
+use mathlib.Core.List.{[], _∷_}
 use mathlib.Core.Option.{Option, none, some}
 use mathlib.Core.Logic.{_⊎_, inl, inr, ⊎-elim}
 use native.Mathlib.Omega.{arith}
-use borrow.Author.Tests.{eqb-true, eqb-false, eq-eqb, ne-eqb, ltb-true, leb-true, lt-ltb, le-leb}
-use lib.Dec.{eqb, leb, ltb}
-use lib.ListN.{length}
-use Rattle.protocol.proofs.Tests.{which, and-left, and-right}
-use Rattle.rules.specs.Effect.{Effect, nothing, names, attach, attachVirtual, detach, setFormat, answer, ask, value, disconnect, connect, empty}
-use Rattle.rules.specs.Facts.{Setup, sameSetup, Format, Wiring, unjoined, joined, virtual, isUnjoined, Facts, View, known}
-use Rattle.rules.specs.Judge.{unjoinedHere, goodPair, present, judge}
-use Rattle.rules.specs.Ranges.{effectFits}
-use Rattle.rules.specs.Table.{Record, Table, fullTable, viewOfTable, insert, change, remove, freed, wired, wiredAs, dissolve, dissolveBy, detachBy, bare, newRecord, withFormat, withAnswer, answeredState, withAsk, apply}
-use Rattle.rules.specs.WellFormed.{setupFits, formatFits, formatsFit, stateAfter, stateFits, factsFit}
-use Rattle.rules.proofs.Lookup.{mapFacts, after, view-change, view-remove, view-insert, view-freed}
-use Rattle.rules.proofs.Pairs.{Wired, put, same?, put-same, put-other, Pairs, Named, pairs-loose, three, at-first, at-second, pairs-virtual, pairs-dissolve}
-use Rattle.rules.proofs.Sound.{wiring?, wiredIn, Fit, Loose, Sound, Seen, seen}
-use Rattle.rules.proofs.Keep.{loose-change, loose-remove, loose-insert, loose-freed}
+use borrow.Author.Tests.{eqb-true}
+use lib.Dec.{eqb}
+use Rattle.protocol.proofs.Tests.{which}
+use Rattle.rules.specs.Facts.{Wiring, unjoined, joined, virtual, Facts, known}
+use Rattle.rules.specs.Table.{Record, Table, fullTable, viewOfTable, insert, change, remove, wired, dissolve, bare, newRecord}
+use Rattle.rules.proofs.Lookup.{mapFacts, view-change, view-remove, view-insert}
+use Rattle.rules.proofs.Pairs.{Wired, put, same?, put-same, put-other, Pairs, pairs-loose, three, pairs-virtual, pairs-dissolve}
+use Rattle.rules.proofs.Sound.{wiring?, wiredIn, Fit, Loose, Sound}
+use Rattle.rules.proofs.Keep.{loose-change, loose-remove, loose-insert}
 
 -- ---- who is joined to whom, after each change
 

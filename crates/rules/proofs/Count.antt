@@ -2,18 +2,18 @@
 use Prim.Native.Nat.{ℕ, zero, suc, _+_, _≤_, _<_}
 use mathlib.Core.Path.{_≡_, refl, sym, _∙_, ap}
 use mathlib.Core.Bool.{Bool, true, false, cond}
-use mathlib.Core.List.{List, [], _∷_}
+use mathlib.Core.List.{[], _∷_}
 use mathlib.Core.Option.{Option, none, some}
 use mathlib.Core.Logic.{_⊎_, inl, inr, ⊎-elim}
 use native.Mathlib.Omega.{arith}
-use borrow.Author.Tests.{eqb-true, eqb-false, eq-eqb, ne-eqb, lt-ltb, le-ltb, le-leb, lt-leb, ltb-true, ltb-false}
+use borrow.Author.Tests.{eqb-true, eqb-false, eq-eqb, lt-ltb, le-ltb, le-leb, lt-leb, ltb-true, ltb-false}
 use lib.Dec.{eqb, leb, ltb}
 use lib.ListN.{length}
 use Rattle.protocol.proofs.Tests.{which}
-use Rattle.rules.specs.Facts.{Facts, View, known}
+use Rattle.rules.specs.Facts.{Facts, known}
 use Rattle.rules.specs.History.{oneIf, presentBelow}
 use Rattle.rules.specs.Table.{Record, Table, fullTable, viewOfTable}
-use Rattle.rules.proofs.Sound.{Distinct, Loose, Sound}
+use Rattle.rules.proofs.Sound.{Distinct, Sound}
 
 -- how many places are in use
 abbrev pub used : Table → ℕ

@@ -1,9 +1,9 @@
 -- Demand 3: the table and the reader without a table agree, through every list of messages.
 use Prim.Native.Nat.{ℕ, zero, suc}
 use mathlib.Core.Path.{_≡_, refl, sym, _∙_, ap}
-use mathlib.Core.Bool.{Bool, true, false, cond}
+use mathlib.Core.Bool.{Bool, true, false}
 use mathlib.Core.List.{List, [], _∷_}
-use mathlib.Core.Option.{Option, none, some}
+use mathlib.Core.Option.{none, some}
 use mathlib.Core.Logic.{⊎-elim}
 use native.Mathlib.Omega.{arith}
 use borrow.Author.Tests.{eqb-true, eq-eqb}
@@ -17,18 +17,17 @@ use Rattle.protocol.specs.Decode.{Answer, accepted, decode, openOf}
 use Rattle.protocol.specs.Decode as Decode
 use Rattle.protocol.specs.Answer.{messageOf}
 use Rattle.rules.specs.Effect.{Effect, effectOf}
-use Rattle.rules.specs.Facts.{Wiring, joined, virtual, Facts, View, Modes}
+use Rattle.rules.specs.Facts.{Facts, View, Modes}
 use Rattle.rules.specs.Judge.{judge}
 use Rattle.rules.specs.Ranges.{effectFits}
 use Rattle.rules.specs.History.{History, sinceAttached, viewOfHistory, modesOfHistory, presentBelow, fullHistory}
-use Rattle.rules.specs.Table.{Record, Table, viewOfTable, modesOfTable, fullTable, apply}
+use Rattle.rules.specs.Table.{Table, viewOfTable, modesOfTable, fullTable, apply}
 use Rattle.rules.specs.Cells.{cellsOf, tableAt, sound, emptyCells}
 use Rattle.rules.specs.Offer.{Entry, Verdict, refused, accepts, verdict, judgeAnswer, judgeEntry, handEntry, offerCells, appliedTo, cellsAfter, handCells, remember, heard}
-use Rattle.rules.specs.Value as Value
 use Rattle.rules.specs.Demand3.{Agree, AgreeThrough, AllBytes, Demand3}
 use Rattle.rules.proofs.Lookup.{mapFacts}
-use Rattle.rules.proofs.Pairs.{Pairs}
-use Rattle.rules.proofs.Sound.{wiring?, wiredIn, Distinct, Loose, Sound, found-later, sound-formed}
+use Rattle.rules.proofs.Pairs.{pairs-none}
+use Rattle.rules.proofs.Sound.{wiring?, wiredIn, Distinct, Sound, found-later, sound-formed}
 use Rattle.rules.proofs.CellsTable.{NoHighFormats, table-back}
 use Rattle.rules.proofs.CellsSound.{sound-cells, empty-cells}
 use Rattle.rules.proofs.Ranges.{effect-fits}
@@ -171,9 +170,6 @@ none-twice : (n : ℕ) → Distinct (replicate n none)
 none-twice zero = tt
 none-twice (suc n) = none-twice n
 
-never : {A : Type 0} (q : ℕ) (y : Wiring) → wiredIn (replicate 16 none) q ≡ some y → A
-never q y k = let there : none ≡ some y = sym (ap wiring? (none-seen 16 q)) ∙ k in let z : _≡_ {A = ℕ} 0 1 = cc in absurd (omega arith)
-
 pub empty-table-sound : Sound (replicate 16 none)
 empty-table-sound = record {
   loose = record {
@@ -181,12 +177,7 @@ empty-table-sound = record {
     distinct = none-twice 16;
     fit = λ p f e. let there : none ≡ some f = sym (none-seen 16 p) ∙ e in let z : _≡_ {A = ℕ} 0 1 = cc in absurd (omega arith);
   };
-  pairs = record {
-    up = λ p v k. never p (joined v) k;
-    first = λ v a b k. never v (virtual a b) k;
-    second = λ v a b k. never v (virtual a b) k;
-    apart = λ v a b k. never v (virtual a b) k;
-  };
+  pairs = pairs-none (wiredIn (replicate 16 none)) (λ q. ap wiring? (none-seen 16 q));
 }
 
 at-start : Holds emptyCells (heard [])

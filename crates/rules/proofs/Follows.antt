@@ -1,23 +1,20 @@
 -- A table follows a history: at every port it has what the history says, but for who is joined to whom, which follows
 -- from soundness. Each accepted message keeps that.
-use Prim.Native.Nat.{ℕ, zero, suc}
+use Prim.Native.Nat.{ℕ}
 use mathlib.Core.Path.{_≡_, refl, sym, _∙_, ap}
-use mathlib.Core.Bool.{Bool, true, false, cond, _&&_, _||_}
-use mathlib.Core.List.{List, [], _∷_, map}
+use mathlib.Core.Bool.{Bool, true, false, cond, _&&_}
+use mathlib.Core.List.{_∷_}
 use mathlib.Core.Option.{Option, none, some}
-use mathlib.Core.Logic.{_⊎_, inl, inr, ⊎-elim}
-use native.Mathlib.Omega.{arith}
-use borrow.Author.Tests.{eqb-true, eqb-false, eq-eqb, ne-eqb}
+use mathlib.Core.Logic.{⊎-elim}
+use borrow.Author.Tests.{eqb-true}
 use lib.Dec.{eqb}
 use Rattle.protocol.proofs.Tests.{which}
-use Rattle.rules.specs.Effect.{Effect, nothing, names, attach, attachVirtual, detach, setFormat, answer, ask, value, disconnect, connect, empty}
-use Rattle.rules.specs.Facts.{Setup, sameSetup, Format, Wiring, unjoined, joined, virtual, Facts, View, known}
-use Rattle.rules.specs.Judge.{goodPair, judge}
+use Rattle.rules.specs.Effect.{nothing, names, attach, attachVirtual, detach, setFormat, answer, ask, value, disconnect, connect}
+use Rattle.rules.specs.Facts.{Setup, Format, Wiring, unjoined, joined, virtual, Facts}
 use Rattle.rules.specs.History.{History, Attachment, plain, pair, Since, absent, since, hasMember, later, afterDetach, sinceAttached, orElse, latestFormat, latestAnswered, latestAsked, newerThan, afterAsking, stateBy, stateOf, deviceOf}
-use Rattle.rules.specs.Table.{Record, Table, fullTable, viewOfTable, insert, change, remove, freed, wired, wiredAs, dissolve, dissolveBy, detachBy, bare, newRecord, withFormat, withAnswer, answeredState, withAsk, apply}
-use Rattle.rules.proofs.Lookup.{mapFacts, after, view-change, view-remove, view-insert, view-freed}
-use Rattle.rules.proofs.Pairs.{Wired, Pairs, Named}
-use Rattle.rules.proofs.Sound.{wiring?, wiredIn, Sound, Seen, seen}
+use Rattle.rules.specs.Table.{Record, Table, fullTable, viewOfTable, insert, change, remove, wired, withFormat, withAnswer, answeredState, withAsk}
+use Rattle.rules.proofs.Lookup.{mapFacts, after, view-change, view-remove, view-insert}
+use Rattle.rules.proofs.Sound.{wiring?, wiredIn}
 
 -- a wiring without the partner of a joined port
 abbrev pub unwired : Wiring → Wiring

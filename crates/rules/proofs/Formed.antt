@@ -1,23 +1,23 @@
 -- A well formed table is sound, as facts about its ports.
 use Prim.Native.Nat.{ℕ, _≤_, _<_}
 use mathlib.Core.Path.{_≡_, refl, sym, _∙_, ap}
-use mathlib.Core.Bool.{Bool, true, false, cond, not, _&&_, _||_}
-use mathlib.Core.List.{List, [], _∷_}
+use mathlib.Core.Bool.{true, false, not, _&&_}
+use mathlib.Core.List.{[], _∷_}
 use mathlib.Core.Option.{Option, none, some}
-use mathlib.Core.Logic.{_⊎_, inl, inr, ⊎-elim}
+use mathlib.Core.Logic.{⊎-elim}
 use native.Mathlib.Omega.{arith}
-use borrow.Author.Tests.{eqb-true, eqb-false, eq-eqb, ltb-true}
+use borrow.Author.Tests.{eqb-true, eqb-false, ltb-true}
 use lib.Dec.{eqb, ltb}
 use lib.ListN.{length}
 use Rattle.protocol.proofs.Tests.{which, and-left, and-right}
-use Rattle.rules.specs.Facts.{Format, Wiring, unjoined, joined, virtual, Facts, View, known}
+use Rattle.rules.specs.Facts.{Wiring, unjoined, joined, virtual, Facts, View, known}
 use Rattle.rules.specs.Table.{Record, Table, viewOfTable}
 use Rattle.rules.specs.WellFormed.{joinedTo, isJoinedTo, pairWith, isPairWith, wiringFits, factsFit, recordFits, placesFit, wellFormed}
 use Rattle.rules.proofs.CellsRecord.{five-passed}
 use Rattle.rules.proofs.CellsTable.{NoHighFormats}
 use Rattle.rules.proofs.Kept.{not-same}
-use Rattle.rules.proofs.Pairs.{Wired, Pairs, Named}
-use Rattle.rules.proofs.Sound.{wiring?, wiredIn, Distinct, Fit, Loose, Sound, Seen, seen}
+use Rattle.rules.proofs.Pairs.{Wired, Named}
+use Rattle.rules.proofs.Sound.{wiring?, wiredIn, Distinct, Sound, seen}
 use Rattle.rules.proofs.Step.{either-is}
 
 -- what the tests of a port's record say

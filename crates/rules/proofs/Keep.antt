@@ -1,20 +1,19 @@
 -- Every change of a table keeps it sound.
-use Prim.Native.Nat.{ℕ, zero, suc, _≤_, _<_}
+use Prim.Native.Nat.{ℕ, suc}
 use mathlib.Core.Path.{_≡_, refl, sym, _∙_, ap}
-use mathlib.Core.Bool.{Bool, true, false, cond, _&&_}
-use mathlib.Core.List.{List, [], _∷_, map}
+use mathlib.Core.Bool.{Bool, true, false, cond}
+use mathlib.Core.List.{[], _∷_, map}
 use mathlib.Core.Option.{Option, none, some}
 use mathlib.Core.Logic.{_⊎_, inl, inr, ⊎-elim}
 use native.Mathlib.Omega.{arith}
-use borrow.Author.Tests.{eqb-true, eqb-false, eq-eqb, ne-eqb}
+use borrow.Author.Tests.{eqb-true, eqb-false, ne-eqb}
 use lib.Dec.{eqb}
 use lib.ListN.{length}
 use Rattle.protocol.proofs.Tests.{which}
-use Rattle.rules.specs.Facts.{Format, Wiring, unjoined, joined, virtual, Facts, View, known}
-use Rattle.rules.specs.Table.{Record, Table, fullTable, viewOfTable, insert, changed, change, remove, freed, wired, dissolve, newRecord}
+use Rattle.rules.specs.Facts.{Facts, known}
+use Rattle.rules.specs.Table.{Record, Table, fullTable, viewOfTable, insert, change, remove, freed}
 use Rattle.rules.proofs.Lookup.{mapFacts, after, view-change, view-remove, view-insert, view-freed}
-use Rattle.rules.proofs.Pairs.{Wired, put, same?, put-same, put-other, Pairs, Named, pairs-loose, three, pairs-virtual, pairs-dissolve}
-use Rattle.rules.proofs.Sound.{wiring?, wiredIn, Distinct, Fit, Loose, Sound, Seen, seen}
+use Rattle.rules.proofs.Sound.{Distinct, Fit, Loose}
 
 -- ---- sizes
 

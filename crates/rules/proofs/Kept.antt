@@ -1,26 +1,26 @@
 -- An accepted message keeps a sound table sound: one law over what messages are to a table.
-use Prim.Native.Nat.{ℕ, zero, suc, _≤_, _<_}
-use mathlib.Core.Path.{_≡_, refl, sym, _∙_, ap}
+use Prim.Native.Nat.{ℕ, zero, suc}
+use mathlib.Core.Path.{_≡_, refl, sym, _∙_, ap, subst}
 use mathlib.Core.Bool.{Bool, true, false, cond, not, _&&_, _||_}
-use mathlib.Core.List.{List, [], _∷_, map}
+use mathlib.Core.List.{map}
 use mathlib.Core.Option.{Option, none, some}
-use mathlib.Core.Logic.{_⊎_, inl, inr, ⊎-elim}
+use mathlib.Core.Logic.{_⊎_, inl, inr}
 use native.Mathlib.Omega.{arith}
-use borrow.Author.Tests.{eqb-true, eqb-false, eq-eqb, ne-eqb, ltb-true, leb-true, lt-ltb, le-leb}
+use borrow.Author.Tests.{eqb-false, ne-eqb, ltb-true, leb-true}
 use lib.Dec.{eqb, leb, ltb}
-use Rattle.protocol.proofs.Tests.{which, and-left, and-right}
+use Rattle.protocol.proofs.Tests.{and-left, and-right}
 use Rattle.rules.specs.Effect.{Effect, nothing, names, attach, attachVirtual, detach, setFormat, answer, ask, value, disconnect, connect, empty}
-use Rattle.rules.specs.Facts.{Setup, sameSetup, Format, Wiring, unjoined, joined, virtual, isUnjoined, Facts, View, known}
-use Rattle.rules.specs.Judge.{unjoinedHere, goodPair, present, wants, judge}
+use Rattle.rules.specs.Facts.{Setup, sameSetup, Format, Wiring, unjoined, joined, virtual, isUnjoined, Facts, known}
+use Rattle.rules.specs.Judge.{unjoinedHere, goodPair, judge}
 use Rattle.rules.specs.Ranges.{effectFits}
-use Rattle.rules.specs.Table.{Record, Table, fullTable, viewOfTable, modesOfTable, insert, change, remove, freed, wired, wiredAs, dissolve, dissolveBy, detachBy, bare, newRecord, withFormat, withAnswer, answeredState, withAsk, apply}
-use Rattle.rules.specs.WellFormed.{setupFits, formatFits, formatsFit, stateAfter, stateFits, factsFit}
+use Rattle.rules.specs.Table.{Table, fullTable, viewOfTable, modesOfTable, freed, wiredAs, dissolve, detachBy, bare, newRecord, withFormat, withAnswer, answeredState, withAsk, apply, remove, dissolveBy}
+use Rattle.rules.specs.WellFormed.{setupFits, formatFits, formatsFit, stateFits, factsFit}
 use Rattle.rules.proofs.CellsRecord.{five-passed}
 use Rattle.rules.proofs.Lookup.{view-freed}
-use Rattle.rules.proofs.Pairs.{Wired, Pairs, Named, three, at-first, at-second, port-first, port-second}
-use Rattle.rules.proofs.Sound.{wiring?, wiredIn, Fit, Loose, Sound, Seen, seen}
+use Rattle.rules.proofs.Pairs.{Wired, Pairs, pairs-none, three, at-first, at-second, port-first, port-second}
+use Rattle.rules.proofs.Sound.{wiring?, wiredIn, Fit, Sound}
 use Rattle.rules.proofs.Keep.{loose-freed}
-use Rattle.rules.proofs.Apply.{pairs-ext, sound-keep, sound-attach, sound-remove, sound-dissolve, wired-dissolve, sound-virtual}
+use Rattle.rules.proofs.Apply.{sound-keep, sound-attach, sound-remove, sound-dissolve, wired-dissolve, sound-virtual}
 
 -- ---- facts within their lists
 
@@ -159,7 +159,7 @@ sound-detach t s p (joined v) e =
     let free : wiredIn (dissolve v (n .a) (n .b) t) p ≡ some unjoined =
     wired-dissolve t s v (n .a) (n .b) (n .pair) p ∙ not-virtual (wiredIn t) (s .pairs) v (n .a) (n .b) p (n .pair) (n .member)
     in
-    rw known-as (sound-remove p (dissolve v (n .a) (n .b) t) (sound-dissolve t s v (n .a) (n .b) (n .pair)) (inr free))
+    subst (λ (y : Wiring). Sound (remove p (dissolveBy v y t))) (sym known-as) (sound-remove p (dissolve v (n .a) (n .b) t) (sound-dissolve t s v (n .a) (n .b) (n .pair)) (inr free))
 sound-detach t s p (virtual a b) e = sound-dissolve t s p a b e
 
 pub wanted : (x : Option Facts) → _≡_ {A = ℕ} (cond (known x) 0 10) 0 → known x ≡ true
@@ -194,13 +194,5 @@ keeps (disconnect p) t n s fits ok = s
 keeps (connect a b) t n s fits ok = s
 keeps empty t n s fits ok = record {
   loose = loose-freed t (s .loose .size);
-  pairs = record {
-    up = λ p v k. never t p (joined v) k;
-    first = λ v a b k. never t v (virtual a b) k;
-    second = λ v a b k. never t v (virtual a b) k;
-    apart = λ v a b k. never t v (virtual a b) k;
-  };
+  pairs = pairs-none (wiredIn (map freed t)) (λ q. ap wiring? (view-freed t q));
 }
-  where
-    never : {A : Type 0} (t : Table) (p : ℕ) (y : Wiring) → wiredIn (map freed t) p ≡ some y → A
-    never t p y k = let there : none ≡ some y = sym (ap wiring? (view-freed t p)) ∙ k in let z : _≡_ {A = ℕ} 0 1 = cc in absurd (omega arith)

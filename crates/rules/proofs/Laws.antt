@@ -1,27 +1,22 @@
 -- The laws of the table that come with demand 3.
 use Prim.Native.Nat.{ℕ}
-use mathlib.Core.Path.{_≡_, refl, sym, _∙_, ap}
-use mathlib.Core.Bool.{Bool, true, false, cond}
-use mathlib.Core.List.{List, [], _∷_, _++_}
-use mathlib.Core.Option.{Option, none, some}
-use mathlib.Core.Logic.{⊎-elim}
+use mathlib.Core.Path.{_≡_, refl, _∙_, ap}
+use mathlib.Core.Bool.{Bool, true, cond}
+use mathlib.Core.List.{List, [], _∷_}
+use mathlib.Core.Option.{none, some}
 use native.Mathlib.Omega.{arith}
 use borrow.Author.Tests.{eq-eqb}
-use lib.Dec.{eqb}
-use Rattle.protocol.proofs.Tests.{which}
-use Rattle.protocol.specs.Number.{Bytes}
-use Rattle.rules.specs.Effect.{Effect}
 use Rattle.rules.specs.Ranges.{effectFits}
-use Rattle.rules.specs.Table.{Record, Table, viewOfTable, modesOfTable, fullTable, insert, remove, apply}
-use Rattle.rules.specs.Cells.{cellsOf, tableAt, sound}
-use Rattle.rules.specs.Offer.{Entry, Verdict, refused, accepts, judgeEntry, offerCells, appliedTo, cellsAfter}
+use Rattle.rules.specs.Table.{Table, viewOfTable, modesOfTable, fullTable, remove, apply}
+use Rattle.rules.specs.Cells.{tableAt, sound}
+use Rattle.rules.specs.Offer.{Verdict, refused, accepts, judgeEntry, offerCells, appliedTo, cellsAfter}
 use Rattle.rules.specs.Laws.{EmptySound, StepKeepsSound, RefusedChangesNothing, FreedIsEmpty, LowestPlace}
 use Rattle.rules.proofs.Sound.{Sound}
 use Rattle.rules.proofs.Kept.{keeps}
 use Rattle.rules.proofs.Ranges.{effect-fits}
 use Rattle.rules.proofs.CellsSound as CellsSound
 use Rattle.rules.proofs.Formed.{formed-sound}
-use Rattle.rules.proofs.Demand3.{is-sound, Accepted, was-accepted}
+use Rattle.rules.proofs.Demand3.{is-sound, was-accepted}
 
 pub empty-sound : EmptySound
 empty-sound = CellsSound.empty-sound

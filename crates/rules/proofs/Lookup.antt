@@ -2,15 +2,15 @@
 use Prim.Native.Nat.{ℕ}
 use mathlib.Core.Path.{_≡_, refl, sym, _∙_, ap}
 use mathlib.Core.Bool.{Bool, true, false, cond}
-use mathlib.Core.List.{List, [], _∷_, map}
+use mathlib.Core.List.{[], _∷_, map}
 use mathlib.Core.Option.{Option, none, some}
 use mathlib.Core.Logic.{_⊎_, inl, inr, ⊎-elim}
 use native.Mathlib.Omega.{arith}
 use borrow.Author.Tests.{eqb-true, eq-eqb, ne-eqb, eqb-false}
 use lib.Dec.{eqb}
 use Rattle.protocol.proofs.Tests.{which}
-use Rattle.rules.specs.Facts.{Facts, View, known}
-use Rattle.rules.specs.Table.{Record, Table, fullTable, viewOfTable, insert, changed, change, remove, freed}
+use Rattle.rules.specs.Facts.{Facts}
+use Rattle.rules.specs.Table.{Record, Table, fullTable, viewOfTable, insert, change, remove, freed}
 
 abbrev pub mapFacts : (Facts → Facts) → Option Facts → Option Facts
 mapFacts f none = none

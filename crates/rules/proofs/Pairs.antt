@@ -1,8 +1,8 @@
 -- Who is joined to whom: a joined port names a virtual port that names it, a virtual port two different ports joined to it.
 -- Over any function from ports to wirings, so that nothing of a table's places is seen here.
 use Prim.Native.Nat.{ℕ}
-use mathlib.Core.Path.{_≡_, refl, sym, _∙_, ap}
-use mathlib.Core.Bool.{Bool, true, false, cond}
+use mathlib.Core.Path.{_≡_, sym, _∙_, ap}
+use mathlib.Core.Bool.{true, false, cond}
 use mathlib.Core.Option.{Option, none, some}
 use mathlib.Core.Logic.{_⊎_, inl, inr, ⊎-elim}
 use native.Mathlib.Omega.{arith}
@@ -45,6 +45,18 @@ pub record Pairs (w : Wired) : Type 0 where
 
 clash : {A : Type 0} → _≡_ {A = ℕ} 0 1 → A
 clash e = absurd (omega arith)
+
+-- no port at all
+pub pairs-none : (w : Wired) → ((q : ℕ) → w q ≡ none) → Pairs w
+pairs-none w e = record {
+  up = λ p v k. never p (joined v) k;
+  first = λ v a b k. never v (virtual a b) k;
+  second = λ v a b k. never v (virtual a b) k;
+  apart = λ v a b k. never v (virtual a b) k;
+}
+  where
+    never : {A : Type 0} (q : ℕ) (y : Wiring) → w q ≡ some y → A
+    never q y k = let there : none ≡ some y = sym (e q) ∙ k in let z : _≡_ {A = ℕ} 0 1 = cc in clash z
 
 -- two ports with different wirings are different
 pub unlike : (w : Wired) (p q : ℕ) (x y : Option Wiring) → w p ≡ x → w q ≡ y → (x ≡ y → ⊥) → p ≡ q → ⊥

@@ -1,20 +1,18 @@
 -- A well formed table, as facts about its ports; every change keeps it so.
-use Prim.Native.Nat.{ℕ, zero, suc, _+_, _≤_, _<_}
-use mathlib.Core.Path.{_≡_, refl, sym, _∙_, ap}
-use mathlib.Core.Bool.{Bool, true, false, cond, not, _&&_, _||_}
-use mathlib.Core.List.{List, [], _∷_, map}
+use Prim.Native.Nat.{ℕ, _≤_, _<_}
+use mathlib.Core.Path.{_≡_, refl, _∙_, ap}
+use mathlib.Core.Bool.{Bool, true, false, _&&_, _||_}
+use mathlib.Core.List.{[], _∷_}
 use mathlib.Core.Option.{Option, none, some}
-use mathlib.Core.Logic.{_⊎_, inl, inr, ⊎-elim}
+use mathlib.Core.Logic.{_⊎_, inl, inr}
 use native.Mathlib.Omega.{arith}
-use borrow.Author.Tests.{eqb-true, eqb-false, eq-eqb, ne-eqb, lt-ltb}
+use borrow.Author.Tests.{eq-eqb, ne-eqb, lt-ltb}
 use lib.Dec.{eqb, ltb}
 use lib.ListN.{length}
-use Rattle.protocol.proofs.Tests.{which}
-use Rattle.rules.specs.Facts.{Format, Wiring, unjoined, joined, virtual, Facts, View, known}
-use Rattle.rules.specs.Table.{Record, Table, fullTable, viewOfTable, insert, changed, change, remove, freed}
+use Rattle.rules.specs.Facts.{Wiring, unjoined, joined, virtual, Facts, known}
+use Rattle.rules.specs.Table.{Record, Table, viewOfTable}
 use Rattle.rules.specs.WellFormed.{joinedTo, isJoinedTo, pairWith, isPairWith, wiringFits, factsFit, recordFits, placesFit, wellFormed}
-use Rattle.rules.proofs.Lookup.{mapFacts, after, view-change, view-remove, view-insert, view-freed}
-use Rattle.rules.proofs.Pairs.{Wired, put, same?, put-same, put-other, Pairs, Named}
+use Rattle.rules.proofs.Pairs.{Wired, Pairs}
 
 abbrev pub wiring? : Option Facts → Option Wiring
 wiring? none = none

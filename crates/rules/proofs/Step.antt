@@ -1,26 +1,26 @@
 -- An accepted message: the table follows the history with it.
-use Prim.Native.Nat.{ℕ, zero, suc}
+use Prim.Native.Nat.{ℕ}
 use mathlib.Core.Path.{_≡_, refl, sym, _∙_, ap}
-use mathlib.Core.Bool.{Bool, true, false, cond, _&&_, _||_}
-use mathlib.Core.List.{List, [], _∷_, map}
+use mathlib.Core.Bool.{Bool, true, false, cond, _||_}
+use mathlib.Core.List.{_∷_}
 use mathlib.Core.Option.{Option, none, some}
 use mathlib.Core.Logic.{_⊎_, inl, inr, ⊎-elim}
 use native.Mathlib.Omega.{arith}
-use borrow.Author.Tests.{eqb-true, eqb-false, eq-eqb, ne-eqb}
+use borrow.Author.Tests.{eqb-true, eqb-false}
 use lib.Dec.{eqb}
 use Rattle.protocol.proofs.Tests.{which}
 use Rattle.rules.specs.Effect.{Effect, nothing, names, attach, attachVirtual, detach, setFormat, answer, ask, value, disconnect, connect, empty}
-use Rattle.rules.specs.Facts.{Wiring, unjoined, joined, virtual, Facts, View, known}
+use Rattle.rules.specs.Facts.{Wiring, unjoined, joined, virtual, Facts, known}
 use Rattle.rules.specs.Judge.{goodPair, judge}
-use Rattle.rules.specs.History.{History, Attachment, plain, pair, Since, absent, since, hasMember, later, afterDetach, sinceAttached}
-use Rattle.rules.specs.Table.{Record, Table, fullTable, viewOfTable, modesOfTable, insert, change, remove, freed, wired, wiredAs, dissolve, dissolveBy, detachBy, bare, newRecord, withFormat, withAnswer, withAsk, apply}
+use Rattle.rules.specs.History.{History, plain, pair, Since, absent, since, sinceAttached}
+use Rattle.rules.specs.Table.{Table, fullTable, viewOfTable, modesOfTable, insert, change, remove, wired, wiredAs, dissolve, detachBy, bare, newRecord, withFormat, withAnswer, withAsk, apply}
 use Rattle.rules.specs.WellFormed.{pairWith}
 use Rattle.rules.proofs.Lookup.{mapFacts, after, view-change, view-freed}
-use Rattle.rules.proofs.Pairs.{Wired, Pairs, Named, put, put-other, joined-same, unjoined-joined, joined-virtual}
+use Rattle.rules.proofs.Pairs.{Wired, Pairs, put-other, joined-same, unjoined-joined, joined-virtual}
 use Rattle.rules.proofs.Sound.{wiring?, wiredIn, Sound, or-either}
 use Rattle.rules.proofs.Apply.{wired-change, full-change}
 use Rattle.rules.proofs.Kept.{fresh-by, virtual-by, good-pair, wanted, wired-as}
-use Rattle.rules.proofs.Follows.{unwired, unwire, attachedAs, told, Follows, member?, quiet-nothing, quiet-names, quiet-attach, quiet-virtual, quiet-value, quiet-disconnect, quiet-connect, quiet-detach, ended, tells-format, tells-answer, tells-ask, core-change, core-wired, core-remove, core-insert}
+use Rattle.rules.proofs.Follows.{unwired, unwire, told, Follows, member?, quiet-nothing, quiet-names, quiet-attach, quiet-virtual, quiet-value, quiet-disconnect, quiet-connect, quiet-detach, ended, tells-format, tells-answer, tells-ask, core-change, core-wired, core-remove, core-insert}
 
 -- ---- whose member a port is
 

@@ -1,9 +1,9 @@
 -- A sound table that follows a history says of every port what the reader without a table says, partners included.
 use Prim.Native.Nat.{ℕ, zero, suc, _<_}
 use mathlib.Core.Path.{_≡_, refl, sym, _∙_, ap}
-use mathlib.Core.Bool.{Bool, true, false, cond}
+use mathlib.Core.Bool.{true, false}
 use mathlib.Core.Option.{Option, none, some}
-use mathlib.Core.Logic.{_⊎_, inl, inr, ⊎-elim}
+use mathlib.Core.Logic.{⊎-elim}
 use native.Mathlib.Omega.{arith}
 use Rattle.protocol.proofs.Tests.{which}
 use Rattle.rules.specs.Facts.{Wiring, unjoined, joined, virtual, Facts}
@@ -11,7 +11,7 @@ use Rattle.rules.specs.History.{History, Attachment, plain, pair, Since,
 use Rattle.rules.specs.Table.{Table, viewOfTable, modeBy, modesOfTable, wired}
 use Rattle.rules.proofs.Lookup.{mapFacts}
 use Rattle.rules.proofs.Pairs.{joined-same, unjoined-joined}
-use Rattle.rules.proofs.Sound.{wiring?, wiredIn, Sound, Seen, seen, or-either}
+use Rattle.rules.proofs.Sound.{wiring?, wiredIn, Sound, seen, or-either}
 use Rattle.rules.proofs.Follows.{unwired, unwire, attachedAs, told, Follows, member?}
 use Rattle.rules.proofs.Step.{pairIn, member-is, pair-joins}
 

@@ -7,12 +7,12 @@
 --   12 .. 27 the format of each mode: 0 none, else its four bytes, the first the least significant
 use Prim.Native.Nat.{ℕ, zero, suc, _+_, _*_, _/_, _%_}
 use mathlib.Core.Bool.{Bool, true, false, cond, _&&_}
-use mathlib.Core.List.{List, [], _∷_, _++_, map}
+use mathlib.Core.List.{List, [], _∷_, _++_}
 use mathlib.Core.Option.{Option, none, some}
 use lib.Dec.{eqb}
-use lib.ListN.{length, getD, take, drop, replicate}
+use lib.ListN.{getD, take, drop, replicate}
 use Rattle.protocol.specs.Form.{upFrom}
-use Rattle.rules.specs.Facts.{Setup, Format, Wiring, unjoined, joined, virtual, Facts}
+use Rattle.rules.specs.Facts.{Setup, Format, Wiring, unjoined, joined, virtual}
 use Rattle.rules.specs.Table.{Record, Table}
 use Rattle.rules.specs.WellFormed.{wellFormed}
 

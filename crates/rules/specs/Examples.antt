@@ -4,7 +4,7 @@ use mathlib.Core.Path.{_≡_}
 use mathlib.Core.List.{List, [], _∷_}
 use Rattle.protocol.specs.declared.Way.the-variants.{Down, Up}
 use Rattle.rules.specs.Offer.{Entry, Verdict, refused, accepts, offerPast, handPast}
-use Rattle.rules.specs.Value.{Handed, whole}
+use Rattle.rules.specs.Value.{whole}
 
 abbrev up : List ℕ → Entry
 up s = record { way = Up; bytes = s }

@@ -2,7 +2,6 @@
 use Prim.Native.Nat.{ℕ}
 use mathlib.Core.Bool.{Bool, cond}
 use mathlib.Core.List.{List, [], _∷_}
-use mathlib.Core.Option.{Option}
 use lib.Dec.{eqb}
 use lib.ListN.{length}
 use Rattle.protocol.specs.Decode.{Answer, accepted, decode, openOf}
@@ -10,12 +9,12 @@ use Rattle.protocol.specs.Decode as Decode
 use Rattle.protocol.specs.Answer.{messageOf}
 use Rattle.protocol.specs.declared.Way.{Way}
 use Rattle.rules.specs.Effect.{Effect, effectOf}
-use Rattle.rules.specs.Facts.{Facts, View, Modes}
+use Rattle.rules.specs.Facts.{View, Modes}
 use Rattle.rules.specs.Judge.{judge}
 use Rattle.rules.specs.Value.{Handed, hand}
 use Rattle.rules.specs.Value as Value
 use Rattle.rules.specs.History.{History, viewOfHistory, modesOfHistory, fullHistory}
-use Rattle.rules.specs.Table.{Table, viewOfTable, modesOfTable, fullTable, apply}
+use Rattle.rules.specs.Table.{viewOfTable, modesOfTable, fullTable, apply}
 use Rattle.rules.specs.Cells.{cellsOf, tableAt, sound}
 
 -- a message: any bytes, with their direction

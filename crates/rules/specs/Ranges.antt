@@ -1,5 +1,4 @@
 -- What the fields of an accepted message may be, where a table keeps them.
-use Prim.Native.Nat.{ℕ}
 use mathlib.Core.Bool.{Bool, true, _&&_}
 use mathlib.Core.Option.{some}
 use lib.Dec.{leb, ltb}

@@ -1,6 +1,6 @@
 -- The port table: sixteen places, each free or with a record, and what an accepted message changes.
 use Prim.Native.Nat.{ℕ}
-use mathlib.Core.Bool.{Bool, true, false, cond, _&&_}
+use mathlib.Core.Bool.{Bool, true, false, cond}
 use mathlib.Core.List.{List, [], _∷_, map}
 use mathlib.Core.Option.{Option, none, some}
 use lib.Dec.{eqb}
@@ -13,10 +13,6 @@ pub record Record : Type 0 where
 
 abbrev pub Table : Type 0
 Table = List (Option Record)
-
-abbrev pub free? : Option Record → Bool
-free? none = true
-free? (some r) = false
 
 -- no place is free
 abbrev pub fullTable : Table → Bool

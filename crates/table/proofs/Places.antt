@@ -1,18 +1,18 @@
 -- Going through the places of a table in its cells.
-use Prim.Native.Nat.{ℕ, zero, suc, _+_, _*_, _-_, _≤_, _<_}
+use Prim.Native.Nat.{ℕ, suc, _+_, _*_, _-_, _≤_, _<_}
 use native.Mathlib.Omega.{arith}
 use mathlib.Core.Path.{_≡_, refl, sym, _∙_, ap}
 use mathlib.Core.Bool.{Bool, true, false, cond}
-use mathlib.Core.List.{List, [], _∷_}
-use mathlib.Core.Option.{Option, none, some}
+use mathlib.Core.List.{List, _∷_}
+use mathlib.Core.Option.{none, some}
 use mathlib.Core.Logic.{⊎-elim}
-use borrow.Author.Tests.{eqb-true, eqb-false, eq-eqb, ne-eqb, lt-ltb, le-ltb}
-use lib.Dec.{eqb, ltb}
-use lib.ListN.{getD, take, drop}
+use borrow.Author.Tests.{eqb-true, eqb-false, eq-eqb, ne-eqb, lt-ltb}
+use lib.Dec.{eqb}
+use lib.ListN.{getD, drop}
 use lib.Seq.{getD-take, getD-drop, drop-drop}
 use Rattle.protocol.proofs.Tests.{which}
-use Rattle.rules.specs.Table.{Record, Table, viewOfTable}
-use Rattle.rules.specs.Cells.{stride, recordAt, placeAt, placesAt, tableAt}
+use Rattle.rules.specs.Table.{Table, viewOfTable}
+use Rattle.rules.specs.Cells.{recordAt, placeAt, placesAt, tableAt}
 use Rattle.table.specs.Place.{placeAtIndex, factsAt, portAt}
 
 -- the table from the place at an index on

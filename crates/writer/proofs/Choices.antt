@@ -2,7 +2,7 @@
 use Prim.Native.Nat.{ℕ}
 use native.Mathlib.Omega.{arith}
 use mathlib.Core.Path.{_≡_, refl, sym, _∙_, ap}
-use mathlib.Core.Bool.{Bool, true, false, cond, _&&_, _||_}
+use mathlib.Core.Bool.{Bool, true, false, cond, _||_}
 use mathlib.Core.List.{List, [], _∷_}
 use mathlib.Core.Logic.{⊎-elim}
 use borrow.Author.Tests.{eqb-true, eq-eqb}
@@ -10,18 +10,17 @@ use lib.Dec.{eqb}
 use lib.Ieee.{Float}
 use Rattle.protocol.proofs.Tests.{which}
 use Rattle.protocol.specs.Rule.{between, oneOf}
-use Rattle.protocol.specs.Field.{Value, natural}
 use Rattle.protocol.specs.Properties.{carries, allowed, outsideSelector}
 use Rattle.protocol.specs.Form
 use Rattle.protocol.specs.Form.{Form, formNumber, argument, sameForm, code}
-use Rattle.protocol.specs.Types.{payload, downAction, upAction, hubProperties, hubActions, hubAlerts, portModeInformation, types, typeOf}
+use Rattle.protocol.specs.Types.{payload, downAction, upAction, hubProperties, hubActions, hubAlerts, portModeInformation, types}
 use Rattle.protocol.specs.Answer.{formOf, valuesOf, naturalAt}
-use Rattle.protocol.specs.Encode.{Encoded, refused, encodeForm, encodeTyped, encodeValues, encode}
+use Rattle.protocol.specs.Encode.{Encoded, refused, encodeForm, encodeValues, encode}
 use Rattle.protocol.specs.declared.Message.{Message}
 use Rattle.protocol.specs.declared.Message.the-variants as Message'
 use Rattle.protocol.specs.declared.Way.{Way}
 use Rattle.protocol.specs.declared.Way.the-variants.{Down, Up}
-use Rattle.writer.specs.Choice.{afterSelectors, downOnly, upOnly, propertyForm, propertyChoice, isAction, actionChoice, commandLeads, isUp, alertChoice}
+use Rattle.writer.specs.Choice.{afterSelectors, downOnly, upOnly, propertyForm, propertyChoice, actionChoice, commandLeads, isUp, alertChoice}
 use Rattle.writer.specs.declared.selector.Choice.{Choice}
 use Rattle.writer.specs.declared.selector.Choice.the-variants.{Chosen, Refused}
 

@@ -1,12 +1,12 @@
 -- Writing a message is writing its slots.
-use Prim.Native.Nat.{ℕ, zero, suc, _+_, _%_, _≤_, _<_}
+use Prim.Native.Nat.{ℕ, zero, suc, _+_, _%_, _≤_}
 use native.Mathlib.Nat.{add-zero}
 use native.Mathlib.Omega.{arith}
 use mathlib.Core.Path.{_≡_, refl, sym, _∙_, ap}
 use mathlib.Core.Bool.{Bool, true, false, cond, _&&_}
 use mathlib.Core.List.{List, [], _∷_, _++_, append-nil, append-assoc}
 use mathlib.Core.Logic.{⊎-elim}
-use borrow.Author.Tests.{eqb-true, eq-eqb, leb-true, le-leb}
+use borrow.Author.Tests.{eqb-true}
 use lib.Dec.{eqb, leb, ltb}
 use lib.ListN.{length, take, drop, replicate, take-append-drop}
 use Rattle.protocol.proofs.Tests.{which, and-left, and-right}
@@ -14,14 +14,14 @@ use Rattle.protocol.specs.Rule.{any, upTo, between}
 use Rattle.protocol.specs.Field.{Field, number, highFirst, signed, float, fixed, Value, natural, integer, real, width, widths}
 use Rattle.protocol.specs.Form
 use Rattle.protocol.specs.Form.{Form, informationType, alertStatus, bootString, lockString, Rest, nothing, openRun, words, layout, code}
-use Rattle.protocol.specs.Answer.{formOf, valuesOf, naturalAt}
-use Rattle.protocol.specs.Encode.{Encoded, encoded, refused, Step, good, bad, stepField, taken, holds, fieldBytes, lowFirst, Written, outside, wrote, before, writeFields, restFits, writeRest, thenRest, framed, closed, afterField, afterFields, frontValue, frontValues, encodeForm}
+use Rattle.protocol.specs.Answer.{formOf, valuesOf}
+use Rattle.protocol.specs.Encode.{Encoded, encoded, refused, good, bad, taken, holds, fieldBytes, lowFirst, Written, outside, wrote, before, writeFields, restFits, thenRest, framed, closed, afterField, afterFields, frontValue, frontValues, encodeForm}
 use Rattle.writer.specs.Writing.{limited, writtenOf, lentAfter}
 use Rattle.protocol.specs.declared.Written.the-variants as Written'
 use Rattle.protocol.specs.declared.Combinations.{Combinations}
 use Rattle.protocol.specs.declared.Message.{Message}
 use Rattle.protocol.specs.declared.Message.the-variants as Message'
-use Rattle.writer.proofs.Ranges.{slotWidth, wide}
+use Rattle.writer.proofs.Ranges.{wide}
 use Rattle.writer.specs.Slot.{slotFits, slotBytes, slotFields, slotValues, Slotted, atMost, wordFields, wordValues, slotsBytes, firstOutside, messageBytes}
 use Rattle.writer.specs.Open.{openFits}
 use Rattle.writer.specs.declared.slot.Slot.{Slot}

@@ -3,6 +3,5 @@ pub mod Encoding
 pub mod Over
 pub mod Ranges
 pub mod Rows
-pub mod Signed
 pub mod Walk
 pub mod Whole

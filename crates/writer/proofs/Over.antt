@@ -1,12 +1,12 @@
 -- Bytes laid over others.
-use Prim.Native.Nat.{ℕ, suc, _+_, _≤_, _<_}
+use Prim.Native.Nat.{ℕ, _+_, _≤_, _<_}
 use native.Mathlib.Nat.{add-zero}
 use native.Mathlib.Numerals.{add-one}
 use native.Mathlib.Omega.{arith}
-use mathlib.Core.Path.{_≡_, refl, sym, _∙_, ap}
-use mathlib.Core.List.{List, [], _∷_, _++_, append-assoc, append-nil}
-use lib.ListN.{length, getD, set, take, drop, length-append, length-drop, take-append-drop}
-use lib.Seq.{paste, paste-zero, paste-suc, length-paste, take-length, take-at, drop-at, take-paste, drop-paste, drop-drop, length-take-le}
+use mathlib.Core.Path.{_≡_, sym, _∙_, ap}
+use mathlib.Core.List.{List, [], _++_, append-assoc, append-nil}
+use lib.ListN.{length, getD, set, take, drop, length-append, take-append-drop}
+use lib.Seq.{paste, paste-zero, paste-suc, length-paste, take-length, take-at, drop-at, drop-drop, length-take-le}
 use Rattle.writer.specs.Slot.{over}
 
 -- a whole copy

@@ -1,7 +1,7 @@
 -- The slots of a message are its fields.
 use Prim.Native.Nat.{ℕ, zero, suc, _≤_, _<_}
 use native.Mathlib.Omega.{arith}
-use mathlib.Core.Path.{_≡_, refl, sym, _∙_, ap}
+use mathlib.Core.Path.{_≡_, refl}
 use mathlib.Core.Bool.{true, false}
 use mathlib.Core.List.{List, [], _∷_}
 use mathlib.Core.Logic.{⊎-elim}
@@ -9,7 +9,6 @@ use borrow.Author.Tests.{leb-true, leb-false, lt-ltb}
 use lib.Dec.{leb}
 use Rattle.protocol.proofs.Tests.{which}
 use Rattle.protocol.specs.Form.{layout}
-use Rattle.protocol.specs.declared.Combinations.{Combinations}
 use Rattle.protocol.specs.declared.Message.{Message}
 use Rattle.protocol.specs.declared.Message.the-variants as Message'
 use Rattle.writer.specs.Slot.{Slotted, wordSlot}

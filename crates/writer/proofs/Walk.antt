@@ -1,13 +1,13 @@
 -- Going through slots one by one.
-use Prim.Native.Nat.{ℕ, suc, _+_, _*_, _≤_, _<_}
+use Prim.Native.Nat.{ℕ, _+_, _*_, _≤_, _<_}
 use native.Mathlib.Numerals.{add-one}
 use native.Mathlib.Omega.{arith}
 use mathlib.Core.Path.{_≡_, refl, sym, _∙_, ap}
 use mathlib.Core.Bool.{true, false}
 use mathlib.Core.List.{List, [], _∷_, _++_, append-assoc, append-nil}
 use mathlib.Core.Logic.{⊎-elim}
-use lib.ListN.{length, getD, take, drop, length-append, drop-of-length-le, take-append-drop}
-use lib.Seq.{drop-cons, take-suc, take-all}
+use lib.ListN.{length, getD, take, drop, length-append, take-append-drop}
+use lib.Seq.{drop-cons, take-suc}
 use Rattle.protocol.proofs.Tests.{which}
 use Rattle.writer.proofs.Over.{over-over, over-length}
 use Rattle.writer.specs.Slot.{slotFits, slotBytes, slotsBytes, firstOutside, over}

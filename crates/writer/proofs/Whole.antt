@@ -2,13 +2,13 @@
 use Prim.Native.Nat.{ℕ, _+_, _≤_, _<_}
 use native.Mathlib.Nat.{zero-add}
 use native.Mathlib.Omega.{arith}
-use mathlib.Core.Path.{_≡_, refl, sym, _∙_, ap}
-use mathlib.Core.List.{List, [], _∷_, _++_, append-assoc}
+use mathlib.Core.Path.{_≡_, refl, _∙_, ap}
+use mathlib.Core.List.{List, [], _∷_, _++_}
 use borrow.Author.Tests.{lt-ltb, le-ltb}
 use lib.ListN.{length, set, drop, length-append, length-set}
 use Rattle.protocol.specs.Encode.{encoded, refused}
 use Rattle.writer.specs.Writing.{limited}
-use Rattle.writer.proofs.Over.{over-over, over-length}
+use Rattle.writer.proofs.Over.{over-over}
 use Rattle.writer.specs.Slot.{slotsBytes, messageBytes, over}
 use Rattle.writer.specs.declared.slot.Slot.{Slot}
 

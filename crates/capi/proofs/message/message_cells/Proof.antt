@@ -2,7 +2,7 @@ use native.Mathlib.Omega.{arith}
 use mir.Syntax.{w8, w32}
 use mir.Val.{SFits}
 use mir.Facts.{toZ-ofZ}
-use Rattle.capi.proofs.Signed.{wider}
+use Rattle.protocol.proofs.Unsigned.{wider}
 use borrow.Author.Needs.{needs}
 use Rattle.capi.proofs.message.message_cells.Statement.{statement}
 use Rattle.capi.proofs.message.message_cells.Tie as tie

@@ -1,6 +1,4 @@
-use Prim.Native.Nat.{ℕ}
 use mathlib.Core.Path.{sym, _∙_, ap}
-use lib.ListN.{getD}
 use borrow.Author.Tests.{lt-ltb, le-ltb}
 use Rattle.protocol.proofs.Properties.{selectors-inside, selector-outside}
 use Rattle.protocol.specs.Types.{hubProperties}

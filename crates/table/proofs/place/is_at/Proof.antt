@@ -1,4 +1,8 @@
-use native.Mathlib.Omega.{arith}
+use Prim.Native.Nat.{_+_, _*_}
+use mathlib.Core.Path.{sym, ap}
+use mathlib.Core.Bool.{Bool, false, cond}
+use lib.Dec.{eqb}
+use lib.ListN.{getD}
 use borrow.Author.Tests.{eq-eqb, ne-eqb}
 use Rattle.table.specs.Place.{portAt}
 use borrow.Author.Needs.{needs}
@@ -16,7 +20,7 @@ shared-slice-read-if1 c = search needs
 
 returns : tie.Need-returns
 unfolding portAt
-returns c = rw (eq-eqb _ _ (c .if1 .taken))
+returns c = sym (ap (λ (b : Bool). cond b false (eqb (getD (c .before .before .args .table .now) (28 * c .before .before .args .place + 1) 0) (c .before .before .args .port))) (eq-eqb _ _ (c .if1 .taken)))
 
 mul-result : tie.Need-mul-result
 mul-result c = search needs

@@ -1,5 +1,5 @@
 use Prim.Native.Nat.{ℕ, suc, _+_, _-_, _/_, _%_, _≤_, _<_}
-use mathlib.Core.Path.{_≡_, refl, sym, _∙_, ap}
+use mathlib.Core.Path.{_≡_, sym, _∙_, ap}
 use mathlib.Core.List.{List, _∷_}
 use native.Mathlib.Omega.{arith}
 use native.Mathlib.Nat.{sub-zero}
@@ -57,7 +57,7 @@ loop-again : tie.Need-loop-again Inv-loop μ-loop
 loop-again c =
     let width : ℕ = c .before .before .args .width in
     let n : ℕ = c .before .before .args .n in
-    let turn = next width n (c .before .loop .i) (c .before .loop .left) (c .before .loop .inv .1) (c .loop-test .taken) in
+    let turn = next width n (c .before .loop .i) (c .before .loop .left) (c .before .loop .inv .1) (omega (arith, c .loop-test .taken)) in
     (laid-one (c .before .before .args .out .now) (c .before .before .args .at) (lowFirst (c .before .before .args .width) (c .before .before .args .n)) (c .before .loop .i) (c .before .loop .out) _ (c .before .loop .inv .0) (room width n (c .before .before .args .at) (c .before .before .args .out .now) (c .before .before .pre)) (omega (arith, low-length width n, c .loop-test .taken)) (turn .0), turn .1)
 
 same-length : tie.Need-same-length Inv-loop μ-loop
