@@ -30,8 +30,12 @@ pub data Effect : Type 0 where
   -- 02 up 30, 31, 32
   empty : Effect
 
-abbrev setup : ℕ → ℕ → ℕ → Setup
+abbrev pub setup : ℕ → ℕ → ℕ → Setup
 setup m d n = record { mode = m; delta = d; notify = n }
+
+-- 30, 31 and 32 empty the table
+abbrev pub actionEffect : ℕ → Effect
+actionEffect a = cond (between 0x30 0x32 a) empty nothing
 
 unfoldable pub effectOf : Message → Effect
 effectOf (Message'.PropertyCommand p o) = nothing
@@ -41,7 +45,7 @@ effectOf (Message'.PropertyRssi o v) = nothing
 effectOf (Message'.PropertyVersion p o v) = nothing
 effectOf (Message'.PropertyProtocol o v) = nothing
 effectOf (Message'.PropertyAddress p o v) = nothing
-effectOf (Message'.HubAction a) = cond (between 0x30 0x32 a) empty nothing
+effectOf (Message'.HubAction a) = actionEffect a
 effectOf (Message'.AlertCommand a o) = nothing
 effectOf (Message'.AlertUpdate a v) = nothing
 effectOf (Message'.Detached port) = detach port
