@@ -1,3 +1,4 @@
 // The port table of one hub, and values read by it.
+mod judge;
 mod place;
 pub mod value;
