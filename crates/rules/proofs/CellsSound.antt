@@ -7,13 +7,13 @@ use mathlib.Core.List.{List, [], _∷_, _++_}
 use mathlib.Core.Option.{none, some}
 use borrow.Author.Tests.{eqb-true, eq-eqb}
 use lib.Dec.{eqb}
-use lib.ListN.{length, getD, take, drop, replicate, length-take, replicate-append-replicate, List·getD-eq-default}
+use lib.ListN.{length, getD, take, drop, replicate, length-take, length-append, replicate-append-replicate, List·getD-eq-default}
 use Rattle.protocol.proofs.Tests.{and-left, and-right}
 use Rattle.rules.specs.Facts.{View}
 use Rattle.rules.specs.Table.{Record, Table, viewOfTable}
 use Rattle.rules.specs.WellFormed.{placesFit, wellFormed}
-use Rattle.rules.specs.Cells.{stride, cellsOf, formatAt, recordAt, placesAt, tableAt, sameCells, sound, emptyCells}
-use Rattle.rules.proofs.CellsRecord.{NoHigh}
+use Rattle.rules.specs.Cells.{stride, placeCells, cellsOf, formatAt, recordAt, placesAt, tableAt, sameCells, sound, emptyCells}
+use Rattle.rules.proofs.CellsRecord.{NoHigh, place-length}
 use Rattle.rules.proofs.CellsTable.{NoHighFormats, table-back}
 
 -- ---- the comparison of cells
@@ -63,6 +63,20 @@ sound-is cells e =
     let same : Bool = sameCells cells (cellsOf (tableAt cells)) in
     let well : Bool = wellFormed (tableAt cells) in
     (same-equal cells (cellsOf (tableAt cells)) (and-left same well e), and-right same well e, places-length 16 cells, places-high 16 cells)
+
+-- ---- how many cells
+
+cells-length : (t : Table) → length (cellsOf t) ≡ stride * length t
+unfolding cellsOf
+cells-length [] = refl
+cells-length (p ∷ t) =
+    let more : stride + stride * length t ≡ stride * suc (length t) = omega arith in
+    length-append (placeCells p) (cellsOf t) ∙ (λ i. place-length p i + cells-length t i) ∙ more
+
+pub sound-length : (cells : List ℕ) → sound cells ≡ true → length cells ≡ 448
+sound-length cells e =
+    let k = sound-is cells e in
+    ap length (k .0) ∙ cells-length (tableAt cells) ∙ ap (λ (n : ℕ). stride * n) (k .2)
 
 -- ---- the empty table
 

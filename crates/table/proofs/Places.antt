@@ -21,7 +21,7 @@ abbrev pub fromPlace : List ℕ → ℕ → Table
 fromPlace cells i = placesAt (16 - i) (drop (28 * i) cells)
 
 -- a cell of the place at an index
-cell : (cells : List ℕ) (i k : ℕ) → k < 28 → getD (placeAtIndex cells i) k 0 ≡ getD cells (28 * i + k) 0
+pub cell : (cells : List ℕ) (i k : ℕ) → k < 28 → getD (placeAtIndex cells i) k 0 ≡ getD cells (28 * i + k) 0
 cell cells i k h = getD-take 28 (drop (28 * i) cells) k 0 h ∙ getD-drop (28 * i) cells k 0
 
 next : (cells : List ℕ) (i : ℕ) → i < 16 → fromPlace cells i ≡ placeAt (placeAtIndex cells i) ∷ fromPlace cells (i + 1)

@@ -1,81 +1,68 @@
+use Prim.Native.Nat.{_+_, _*_, _%_}
+use native.Mathlib.Omega.{arith}
+use mathlib.Core.Path.{sym, _∙_, ap}
+use mathlib.Core.Bool.{Bool, cond}
+use lib.ListN.{getD}
+use Rattle.rules.proofs.CellsSound.{sound-length}
+use Rattle.table.proofs.Numbers.{product-fits}
+use Rattle.table.proofs.Records.{answered-small, refused-10, refused-14, refused-15, by-cell, by-size, ne-size, eq-size}
 use borrow.Author.Needs.{needs}
 use Rattle.table.proofs.judge.value_by.Statement.{statement}
 use Rattle.table.proofs.judge.value_by.Tie as tie
-use Rattle.table.proofs.judge.value_by.Reads as reads
-use Rattle.table.proofs.judge.value_by.Lts as lts
-use Rattle.table.proofs.value.width_of.Reads as width-of-reads
 
--- src/judge.rt:122:9
 returns : tie.Need-returns
-returns c = ?
+returns c = sym (refused-10 (c .before .before .args .table .now) (c .before .before .args .place) (c .before .before .args .port) (c .before .before .args .count) (c .before .before .pre .2) (c .if1 .taken))
 
--- src/judge.rt:124:22
 mul-mode : tie.Need-mul-mode
 mul-mode c = search needs
 
--- src/judge.rt:124:22
 add-mode : tie.Need-add-mode
 add-mode c = search needs
 
--- src/judge.rt:124:16
 mul-mode-2 : tie.Need-mul-mode-2
 mul-mode-2 c = search needs
 
--- src/judge.rt:124:16
 shared-slice-read-mode : tie.Need-shared-slice-read-mode
-shared-slice-read-mode c = ?
+shared-slice-read-mode c = omega (arith, sound-length (c .before .before .before .args .table .now) (c .before .before .before .pre .0), c .before .before .before .pre .1, c .before .if1 .left)
 
--- src/judge.rt:126:9
 returns-2 : tie.Need-returns-2
-returns-2 c = ?
+returns-2 c = sym (refused-14 (c .before .before .before .before .args .table .now) (c .before .before .before .before .args .place) (c .before .before .before .before .args .port) (c .before .before .before .before .args .count) (c .before .before .before .before .pre .2) (omega (arith, c .before .before .before .before .pre .1, c .before .before .if1 .left)) (c .if2 .taken))
 
--- src/judge.rt:128:24
 mul-format : tie.Need-mul-format
 mul-format c = search needs
 
--- src/judge.rt:128:24
 add-format : tie.Need-add-format
 add-format c = search needs
 
--- src/judge.rt:128:42
 cast-format : tie.Need-cast-format
-cast-format c = ?
+cast-format c = record { fits = omega (arith, answered-small (c .before .before .before .before .args .table .now) (c .before .before .before .before .args .place) (c .before .before .before .before .args .port) (c .before .before .before .before .pre .0) (omega (arith, c .before .before .before .before .pre .1, c .before .before .if1 .left)) (c .before .before .before .before .pre .2), c .before .before .before .before .pre .1) }
 
--- src/judge.rt:128:24
 add-format-2 : tie.Need-add-format-2
-add-format-2 c = ?
+add-format-2 c = record { fits = omega (arith, answered-small (c .before .before .before .before .args .table .now) (c .before .before .before .before .args .place) (c .before .before .before .before .args .port) (c .before .before .before .before .pre .0) (omega (arith, c .before .before .before .before .pre .1, c .before .before .if1 .left)) (c .before .before .before .before .pre .2), c .before .before .before .before .pre .1) }
 
--- src/judge.rt:128:18
 mul-format-2 : tie.Need-mul-format-2
-mul-format-2 c = ?
+mul-format-2 c = record { fits = omega (arith, answered-small (c .before .before .before .before .args .table .now) (c .before .before .before .before .args .place) (c .before .before .before .before .args .port) (c .before .before .before .before .pre .0) (omega (arith, c .before .before .before .before .pre .1, c .before .before .if1 .left)) (c .before .before .before .before .pre .2), c .before .before .before .before .pre .1) }
 
--- src/judge.rt:128:18
 shared-slice-read-format : tie.Need-shared-slice-read-format
-shared-slice-read-format c = ?
+shared-slice-read-format c = omega (arith, sound-length (c .before .before .before .before .before .args .table .now) (c .before .before .before .before .before .pre .0), answered-small (c .before .before .before .before .before .args .table .now) (c .before .before .before .before .before .args .place) (c .before .before .before .before .before .args .port) (c .before .before .before .before .before .pre .0) (omega (arith, c .before .before .before .before .before .pre .1, c .before .before .before .if1 .left)) (c .before .before .before .before .before .pre .2), c .before .before .before .before .before .pre .1, c .before .before .before .if1 .left)
 
--- src/judge.rt:130:9
 returns-3 : tie.Need-returns-3
-returns-3 c = ?
+returns-3 c = sym (by-cell (c .before .before .before .before .before .before .args .table .now) (c .before .before .before .before .before .before .args .place) (c .before .before .before .before .before .before .args .port) (c .before .before .before .before .before .before .args .count) (c .before .before .before .before .before .before .pre .2) (omega (arith, c .before .before .before .before .before .before .pre .1, c .before .before .before .before .if1 .left)) (c .before .before .if2 .left) (answered-small (c .before .before .before .before .before .before .args .table .now) (c .before .before .before .before .before .before .args .place) (c .before .before .before .before .before .before .args .port) (c .before .before .before .before .before .before .pre .0) (omega (arith, c .before .before .before .before .before .before .pre .1, c .before .before .before .before .if1 .left)) (c .before .before .before .before .before .before .pre .2)) ∙ refused-15 (getD (c .before .before .before .before .before .before .args .table .now) (28 * c .before .before .before .before .before .before .args .place + 11 + getD (c .before .before .before .before .before .before .args .table .now) (28 * c .before .before .before .before .before .before .args .place + 9) 0) 0) (c .before .before .before .before .before .before .args .count) (c .if3 .taken))
 
--- src/judge.rt:132:8
 cast-if4 : tie.Need-cast-if4
 cast-if4 c = search needs
 
--- src/judge.rt:132:34
 width-of-requires : tie.Need-width-of-requires
 width-of-requires c κs = search needs
 
--- src/judge.rt:132:8
 mul-if4 : tie.Need-mul-if4
-mul-if4 c = ?
+mul-if4 c = record { fits = omega (arith, product-fits ((getD (c .before .before .before .before .before .before .before .args .table .now) (28 * c .before .before .before .before .before .before .before .args .place + 11 + getD (c .before .before .before .before .before .before .before .args .table .now) (28 * c .before .before .before .before .before .before .before .args .place + 9) 0) 0) % 256) (c .width-of .result) (c .width-of .ensures .1) (omega arith)) }
 
--- src/judge.rt:133:9
 returns-4 : tie.Need-returns-4
-returns-4 c = ?
+returns-4 c = sym (by-cell (c .before .before .before .before .before .before .before .before .args .table .now) (c .before .before .before .before .before .before .before .before .args .place) (c .before .before .before .before .before .before .before .before .args .port) (c .before .before .before .before .before .before .before .before .args .count) (c .before .before .before .before .before .before .before .before .pre .2) (omega (arith, c .before .before .before .before .before .before .before .before .pre .1, c .before .before .before .before .before .before .if1 .left)) (c .before .before .before .before .if2 .left) (answered-small (c .before .before .before .before .before .before .before .before .args .table .now) (c .before .before .before .before .before .before .before .before .args .place) (c .before .before .before .before .before .before .before .before .args .port) (c .before .before .before .before .before .before .before .before .pre .0) (omega (arith, c .before .before .before .before .before .before .before .before .pre .1, c .before .before .before .before .before .before .if1 .left)) (c .before .before .before .before .before .before .before .before .pre .2)) ∙ by-size (getD (c .before .before .before .before .before .before .before .before .args .table .now) (28 * c .before .before .before .before .before .before .before .before .args .place + 11 + getD (c .before .before .before .before .before .before .before .before .args .table .now) (28 * c .before .before .before .before .before .before .before .before .args .place + 9) 0) 0) (c .before .before .before .before .before .before .before .before .args .count) (c .before .before .if3 .left) ∙ ap (λ (b : Bool). cond b 0 16) (ne-size (c .before .before .before .before .before .before .before .before .args .count) ((getD (c .before .before .before .before .before .before .before .before .args .table .now) (28 * c .before .before .before .before .before .before .before .before .args .place + 11 + getD (c .before .before .before .before .before .before .before .before .args .table .now) (28 * c .before .before .before .before .before .before .before .before .args .place + 9) 0) 0) % 256) _ _ (c .before .width-of .ensures .0) (c .if4 .taken)))
 
--- src/judge.rt:117:1
 returns-5 : tie.Need-returns-5
-returns-5 c = ?
+returns-5 c = sym (by-cell (c .before .before .before .before .before .before .before .before .args .table .now) (c .before .before .before .before .before .before .before .before .args .place) (c .before .before .before .before .before .before .before .before .args .port) (c .before .before .before .before .before .before .before .before .args .count) (c .before .before .before .before .before .before .before .before .pre .2) (omega (arith, c .before .before .before .before .before .before .before .before .pre .1, c .before .before .before .before .before .before .if1 .left)) (c .before .before .before .before .if2 .left) (answered-small (c .before .before .before .before .before .before .before .before .args .table .now) (c .before .before .before .before .before .before .before .before .args .place) (c .before .before .before .before .before .before .before .before .args .port) (c .before .before .before .before .before .before .before .before .pre .0) (omega (arith, c .before .before .before .before .before .before .before .before .pre .1, c .before .before .before .before .before .before .if1 .left)) (c .before .before .before .before .before .before .before .before .pre .2)) ∙ by-size (getD (c .before .before .before .before .before .before .before .before .args .table .now) (28 * c .before .before .before .before .before .before .before .before .args .place + 11 + getD (c .before .before .before .before .before .before .before .before .args .table .now) (28 * c .before .before .before .before .before .before .before .before .args .place + 9) 0) 0) (c .before .before .before .before .before .before .before .before .args .count) (c .before .before .if3 .left) ∙ ap (λ (b : Bool). cond b 0 16) (eq-size (c .before .before .before .before .before .before .before .before .args .count) ((getD (c .before .before .before .before .before .before .before .before .args .table .now) (28 * c .before .before .before .before .before .before .before .before .args .place + 11 + getD (c .before .before .before .before .before .before .before .before .args .table .now) (28 * c .before .before .before .before .before .before .before .before .args .place + 9) 0) 0) % 256) _ _ (c .before .width-of .ensures .0) (c .if4 .left)))
 
 pub value-by-spec : {M : Type 1} → statement M
 value-by-spec =
