@@ -120,7 +120,7 @@ pub fn open_part(message: &[u8], way: Way) -> &[u8]
 }
 
 // The part of `s` from `at` on, empty where `s` is shorter.
-fn tail(s: &[u8], at: usize) -> &[u8]
+pub fn tail(s: &[u8], at: usize) -> &[u8]
     ensures { λ r. ⌜ now r ≡ drop at (now (s .entry)) ⌝ }
 {
     if at <= s.len() { &s[at..] } else { &s[..0] }

@@ -1,3 +1,4 @@
 pub mod Numbers
 pub mod Places
 pub mod Records
+pub mod Values

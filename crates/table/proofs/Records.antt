@@ -91,7 +91,7 @@ module _ (cells : List ℕ) (i port : ℕ) (s : sound cells ≡ true) (h : i < 1
   fit : Fit port (here cells i)
   fit = table-sound cells s .loose .fit port (here cells i) (found ∙ some-at cells i h)
 
-  passed : (ltb (here cells i .device) 65536 ≡ true) × (formatsFit 16 (here cells i .formats) ≡ true) × (setupFits (here cells i .answered) ≡ true) × (setupFits (here cells i .asked) ≡ true) × (stateFits (here cells i .asked) (here cells i .answered) (here cells i .state) ≡ true)
+  pub passed : (ltb (here cells i .device) 65536 ≡ true) × (formatsFit 16 (here cells i .formats) ≡ true) × (setupFits (here cells i .answered) ≡ true) × (setupFits (here cells i .asked) ≡ true) × (stateFits (here cells i .asked) (here cells i .answered) (here cells i .state) ≡ true)
   passed =
       let f : Facts = here cells i in
       five-passed (ltb (f .device) 65536) (formatsFit 16 (f .formats)) (setupFits (f .answered)) (setupFits (f .asked)) (stateFits (f .asked) (f .answered) (f .state)) (fit .lists)
@@ -128,15 +128,15 @@ no-mode cells i h e = ap modeBy (some-at cells i h) ∙ ap modeIn (answered-at c
 pub a-mode : (cells : List ℕ) (i : ℕ) → i < 16 → (getD cells (28 * i + 9) 0 ≡ 0 → ⊥) → modeBy (factsAt cells i) ≡ some (getD cells (28 * i + 9) 0 - 1)
 a-mode cells i h used = ap modeBy (some-at cells i h) ∙ ap modeIn (answered-at cells i) ∙ mode-some (getD cells (28 * i + 9) 0) (getD cells (28 * i + 10) 0) (getD cells (28 * i + 11) 0) used
 
+pub positive : (n : ℕ) → (n ≡ 0 → ⊥) → 1 ≤ n
+positive zero used = absurd (used refl)
+positive (suc n) used = omega arith
+
 -- the format's cell of the mode whose number plus one stands in a cell
 pub format-of : (cells : List ℕ) (i m : ℕ) → (m ≡ 0 → ⊥) → m ≤ 16 → here cells i .formats (m - 1) ≡ formatAt (getD cells (28 * i + 11 + m) 0)
 format-of cells i m used h =
     let more : 1 ≤ m = positive m used in
     format-at cells i (m - 1) (omega arith) ∙ ap (λ (n : ℕ). formatAt (getD cells n 0)) (omega arith)
-  where
-    positive : (n : ℕ) → (n ≡ 0 → ⊥) → 1 ≤ n
-    positive zero u = absurd (u refl)
-    positive (suc n) u = omega arith
 
 -- judging a value by what stands at its port's place
 module _ (cells : List ℕ) (i port count : ℕ) (found : viewOfTable (tableAt cells) port ≡ factsAt cells i) where

@@ -1,4 +1,5 @@
 // The port table of one hub, and values read by it.
+mod hand;
 mod judge;
 mod place;
 pub mod value;
