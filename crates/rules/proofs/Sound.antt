@@ -91,7 +91,7 @@ module _ (t : Table) (s : Sound t) where
       let k = seen (viewOfTable t q) y e in
       lt-ltb q 256 (s .loose .fit q (k .facts) (k .is) .small)
 
-  wiring-fits : (p : ℕ) (y : Wiring) → wiredIn t p ≡ some y → wiringFits (viewOfTable t) p y ≡ true
+  pub wiring-fits : (p : ℕ) (y : Wiring) → wiredIn t p ≡ some y → wiringFits (viewOfTable t) p y ≡ true
   wiring-fits p unjoined e = refl
   wiring-fits p (joined v) e =
       let n = s .pairs .up p v e in

@@ -5,9 +5,9 @@ use mathlib.Core.List.{List, [], _∷_}
 use mathlib.Core.Option.{Option, none, some}
 use lib.Dec.{eqb, ltb}
 use lib.ListN.{getD, take, drop}
-use Rattle.rules.specs.Facts.{Facts}
+use Rattle.rules.specs.Facts.{Facts, Wiring}
 use Rattle.rules.specs.Table.{Table}
-use Rattle.rules.specs.Cells.{stride, recordAt}
+use Rattle.rules.specs.Cells.{stride, recordAt, wiringAt}
 
 -- the cells of the place at an index
 abbrev pub placeAtIndex : List ℕ → ℕ → List ℕ
@@ -16,6 +16,10 @@ placeAtIndex cells i = take stride (drop (stride * i) cells)
 -- the facts of the record at an index; none from 16 on
 unfoldable pub factsAt : List ℕ → ℕ → Option Facts
 factsAt cells i = cond (ltb i 16) (some (recordAt (placeAtIndex cells i) .facts)) none
+
+-- the wiring that the cells of the place at an index stand for
+abbrev pub wiringHere : List ℕ → ℕ → Wiring
+wiringHere cells i = wiringAt (getD cells (28 * i) 0) (getD cells (28 * i + 3) 0) (getD cells (28 * i + 4) 0)
 
 -- whether the record of a port stands at an index
 unfoldable pub portAt : List ℕ → ℕ → ℕ → Bool

@@ -2,4 +2,5 @@
 mod hand;
 mod judge;
 mod place;
+pub mod query;
 pub mod value;

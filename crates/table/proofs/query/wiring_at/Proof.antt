@@ -1,0 +1,92 @@
+use borrow.Author.Needs.{needs}
+use Rattle.table.proofs.query.wiring_at.Statement.{statement}
+use Rattle.table.proofs.query.wiring_at.Tie as tie
+
+mul-match : tie.Need-mul-match
+mul-match c = search needs
+
+mul-match-2 : tie.Need-mul-match-2
+mul-match-2 c = search needs
+
+shared-slice-read-match : tie.Need-shared-slice-read-match
+shared-slice-read-match c = search needs
+
+mul-t9 : tie.Need-mul-t9
+mul-t9 c = search needs
+
+add-t10 : tie.Need-add-t10
+add-t10 c = search needs
+
+mul-t11 : tie.Need-mul-t11
+mul-t11 c = search needs
+
+shared-slice-read-t13 : tie.Need-shared-slice-read-t13
+shared-slice-read-t13 c = search needs
+
+cast-t14 : tie.Need-cast-t14
+cast-t14 c = ?
+
+mul-t15 : tie.Need-mul-t15
+mul-t15 c = search needs
+
+add-t16 : tie.Need-add-t16
+add-t16 c = search needs
+
+mul-t17 : tie.Need-mul-t17
+mul-t17 c = search needs
+
+shared-slice-read-t19 : tie.Need-shared-slice-read-t19
+shared-slice-read-t19 c = search needs
+
+cast-t20 : tie.Need-cast-t20
+cast-t20 c = ?
+
+mul-t21 : tie.Need-mul-t21
+mul-t21 c = search needs
+
+add-t22 : tie.Need-add-t22
+add-t22 c = search needs
+
+mul-t23 : tie.Need-mul-t23
+mul-t23 c = search needs
+
+shared-slice-read-t25 : tie.Need-shared-slice-read-t25
+shared-slice-read-t25 c = search needs
+
+cast-t26 : tie.Need-cast-t26
+cast-t26 c = ?
+
+returns : tie.Need-returns
+returns c = ?
+
+returns-2 : tie.Need-returns-2
+returns-2 c = ?
+
+returns-3 : tie.Need-returns-3
+returns-3 c = ?
+
+pub wiring-at-spec : {M : Type 1} → statement M
+wiring-at-spec =
+    tie.close
+    (tie.spec
+    mul-match
+    mul-match-2
+    shared-slice-read-match
+    mul-t9
+    add-t10
+    mul-t11
+    shared-slice-read-t13
+    cast-t14
+    mul-t15
+    add-t16
+    mul-t17
+    shared-slice-read-t19
+    cast-t20
+    mul-t21
+    add-t22
+    mul-t23
+    shared-slice-read-t25
+    cast-t26
+    returns
+    returns-2
+    returns-3)
