@@ -1,2 +1,5 @@
 pub mod Numbers
 pub mod Places
+pub mod SoundnessExact
+pub mod SoundnessRecord
+pub mod SoundnessTable

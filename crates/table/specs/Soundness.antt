@@ -7,7 +7,7 @@ use lib.Dec.{eqb}
 use lib.ListN.{getD, drop}
 use Rattle.rules.specs.Facts.{Setup, Wiring, View, known}
 use Rattle.rules.specs.Table.{Record, Table, viewOfTable}
-use Rattle.rules.specs.WellFormed.{recordFits}
+use Rattle.rules.specs.WellFormed.{formatsFit, recordFits}
 use Rattle.rules.specs.Cells.{setupCells, wiringCell, firstPartner, secondPartner, recordCells, placeCells, setupAt, wiringAt, recordAt, placeAt, placesAt, tableAt, sameCells}
 use Rattle.table.specs.Place.{placeAtIndex}
 
@@ -22,7 +22,14 @@ wiringIn place = wiringAt (getD place 0 0) (getD place 3 0) (getD place 4 0)
 unfoldable pub sameSetups : List ℕ → Bool
 sameSetups place = eqb (getD place 6 0) (getD place 9 0) && eqb (getD place 7 0) (getD place 10 0) && eqb (getD place 8 0) (getD place 11 0)
 
+-- the formats of every mode fit
+unfoldable pub formatsInFit : List ℕ → Bool
+formatsInFit place = formatsFit 16 (recordAt place .facts .formats)
+
 -- ---- exact: the cells are those of what they stand for
+
+unfoldable pub emptyPlace : List ℕ → Bool
+emptyPlace place = sameCells place (placeCells none)
 
 unfoldable pub exactSetup : ℕ → ℕ → ℕ → Bool
 exactSetup mode delta notify = sameCells (mode ∷ delta ∷ notify ∷ []) (setupCells (setupAt mode delta notify))

@@ -2,13 +2,13 @@
 ghost use mathlib.Core.Path.{_≡_};
 ghost use mathlib.Core.List.{List};
 ghost use Prim.Native.Nat.{ℕ, _+_, _≤_, _<_};
-ghost use lib.ListN.{length, getD, replicate};
+ghost use lib.ListN.{length, getD};
 ghost use Rattle.rules.specs.Facts.{joined, virtual, known};
 ghost use Rattle.rules.specs.Table.{viewOfTable};
-ghost use Rattle.rules.specs.WellFormed.{setupFits, formatFits, formatsFit, stateFits, isJoinedTo, joinedTo, isPairWith, pairWith, wiringFits, factsFit, recordFits};
-ghost use Rattle.rules.specs.Cells.{formatAt, recordAt, placeAt, tableAt, sameCells, sound};
+ghost use Rattle.rules.specs.WellFormed.{setupFits, formatFits, stateFits, isJoinedTo, joinedTo, isPairWith, pairWith, wiringFits, factsFit, recordFits};
+ghost use Rattle.rules.specs.Cells.{formatAt, recordAt, placeAt, tableAt, sound};
 ghost use Rattle.table.specs.Place.{placeAtIndex};
-ghost use Rattle.table.specs.Soundness.{setupIn, wiringIn, sameSetups, exactSetup, exactWiring, exactRecord, placeHas, placesAfter, soundPlace};
+ghost use Rattle.table.specs.Soundness.{setupIn, wiringIn, sameSetups, formatsInFit, emptyPlace, exactSetup, exactWiring, exactRecord, placeHas, placesAfter, soundPlace};
 use crate::place::find;
 
 // The cells of a place.
@@ -24,7 +24,7 @@ fn place_at(table: &[u32], i: usize) -> &[u32]
 // Whether every cell of a place is 0.
 fn is_empty(place: &[u32]) -> bool
     requires { ⌜ length (now place) ≡ 28 ⌝ }
-    ensures { λ r. ⌜ r ≡ sameCells (now (place .entry)) (replicate 28 0) ⌝ }
+    ensures { λ r. ⌜ r ≡ emptyPlace (now (place .entry)) ⌝ }
 {
     let mut k = 0;
     while k < 28 {
@@ -129,7 +129,7 @@ fn format_fits(format: u32) -> bool
 // Whether the formats of all modes are.
 fn formats_fit(place: &[u32]) -> bool
     requires { ⌜ length (now place) ≡ 28 ⌝ }
-    ensures { λ r. ⌜ r ≡ formatsFit 16 (recordAt (now (place .entry)) .facts .formats) ⌝ }
+    ensures { λ r. ⌜ r ≡ formatsInFit (now (place .entry)) ⌝ }
 {
     let mut mode = 16;
     while 0 < mode {
