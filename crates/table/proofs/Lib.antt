@@ -1,3 +1,4 @@
+pub mod InOrder
 pub mod Numbers
 pub mod Places
 pub mod SoundnessExact

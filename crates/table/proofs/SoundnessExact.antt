@@ -15,6 +15,7 @@ use Rattle.rules.specs.Facts.{Setup, Format, Wiring}
 use Rattle.rules.specs.Cells.{formatCell, setupCells, wiringCell, firstPartner, secondPartner, formatCells, modes, recordCells, formatAt, setupAt, recordAt, sameCells}
 use Rattle.rules.proofs.CellsSound.{same-refl}
 use Rattle.table.specs.Soundness.{setupIn, wiringIn, exactSetup, exactAs, exactWiring, exactRecord}
+use Rattle.table.proofs.InOrder.{Tested, tested}
 
 pub same-append : (a b c d : List ℕ) → length a ≡ length b → sameCells (a ++ c) (b ++ d) ≡ (sameCells a b && sameCells c d)
 same-append [] [] c d e = refl
@@ -79,9 +80,9 @@ first-cells c from (suc n) h =
     let more : suc from + n ≡ from + suc n = omega arith in
     drop-cons c from 0 (omega arith) ∙ ap (λ (l : List ℕ). getD c from 0 ∷ l) (first-cells c (suc from) n (omega arith) ∙ ap (λ (k : ℕ). some-cells c (suc from) n ++ drop k c) more)
 
-pub exact-parts : (c : List ℕ) → length c ≡ 28 → exactRecord c ≡ (exactWiring (getD c 0 0) (getD c 3 0) (getD c 4 0) && exactSetup (getD c 6 0) (getD c 7 0) (getD c 8 0) && exactSetup (getD c 9 0) (getD c 10 0) (getD c 11 0))
+pub exact-by : (c : List ℕ) {r : Bool} → length c ≡ 28 → Tested (exactWiring (getD c 0 0) (getD c 3 0) (getD c 4 0) ∷ exactSetup (getD c 6 0) (getD c 7 0) (getD c 8 0) ∷ exactSetup (getD c 9 0) (getD c 10 0) (getD c 11 0) ∷ []) r → r ≡ exactRecord c
 unfolding exactRecord recordCells recordAt exactWiring
-exact-parts c size =
+exact-by c size k =
     let w : Wiring = wiringIn c in
     let fs : List ℕ = drop 12 c in
     let gs : List ℕ = formatCells (λ mode. formatAt (getD (take 16 fs) mode 0)) modes in
@@ -89,10 +90,11 @@ exact-parts c size =
     let wires : Bool = exactAs w (getD c 0 0) (getD c 3 0) (getD c 4 0) in
     let asked : Bool = exactSetup (getD c 6 0) (getD c 7 0) (getD c 8 0) in
     let answered : Bool = exactSetup (getD c 9 0) (getD c 10 0) (getD c 11 0) in
-    ap (λ (l : List ℕ). sameCells l (recordCells (recordAt c))) (first-cells c 0 12 (omega arith))
+    tested k
+    ∙ sym (ap (λ (l : List ℕ). sameCells l (recordCells (recordAt c))) (first-cells c 0 12 (omega arith))
     ∙ front-same w (getD c 0 0) (getD c 1 0) (getD c 2 0) (getD c 3 0) (getD c 4 0) (getD c 5 0) (some-cells c 6 6 ++ fs) (setupCells (setupIn c 6) ++ setupCells (setupIn c 9) ++ gs)
     ∙ ap (λ (t : Bool). wires && t)
         (setups-same (getD c 6 0) (getD c 7 0) (getD c 8 0) (getD c 9 0) (getD c 10 0) (getD c 11 0) fs gs
         ∙ ap (λ (t : Bool). asked && answered && t) (formats-same fs sixteen)
         ∙ and-true (asked && answered))
-    ∙ sym (and-assoc wires asked answered)
+    ∙ sym (and-assoc wires asked answered))
