@@ -1,51 +1,39 @@
+use borrow.Author.Tests.{lt-ltb, le-ltb}
+use Rattle.table.proofs.InOrder.{stops, passes, ends, missed, held}
+use Rattle.table.proofs.SoundnessRecord.{facts-by}
 use borrow.Author.Needs.{needs}
 use Rattle.table.proofs.soundness.facts_fit.Statement.{statement}
 use Rattle.table.proofs.soundness.facts_fit.Tie as tie
-use Rattle.table.proofs.soundness.facts_fit.Reads as reads
-use Rattle.table.proofs.soundness.facts_fit.Lts as lts
-use Rattle.table.proofs.soundness.formats_fit.Reads as formats-fit-reads
-use Rattle.table.proofs.soundness.setup_fits.Reads as setup-fits-reads
-use Rattle.table.proofs.soundness.state_fits.Reads as state-fits-reads
 
--- src/soundness.rt:169:17
 shared-slice-read-if1 : tie.Need-shared-slice-read-if1
 shared-slice-read-if1 c = search needs
 
--- src/soundness.rt:170:9
 returns : tie.Need-returns
-returns c = ?
+returns c = facts-by (c .before .before .before .args .place .now) (stops (le-ltb _ _ (c .if1 .taken)))
 
--- src/soundness.rt:172:9
 formats-fit-requires : tie.Need-formats-fit-requires
 formats-fit-requires c κs = search needs
 
--- src/soundness.rt:173:9
 returns-2 : tie.Need-returns-2
-returns-2 c = ?
+returns-2 c = facts-by (c .before .before .before .before .before .args .place .now) (passes (lt-ltb _ _ (c .before .before .if1 .left)) (stops (missed (c .before .formats-fit .ensures) (c .if2 .taken))))
 
--- src/soundness.rt:175:9
 setup-fits-requires : tie.Need-setup-fits-requires
 setup-fits-requires c κs = search needs
 
--- src/soundness.rt:176:9
 returns-3 : tie.Need-returns-3
-returns-3 c = ?
+returns-3 c = facts-by (c .before .before .before .before .before .before .before .args .place .now) (passes (lt-ltb _ _ (c .before .before .before .before .if1 .left)) (passes (held (c .before .before .before .formats-fit .ensures) (c .before .before .if2 .left)) (stops (missed (c .before .setup-fits .ensures) (c .if3 .taken)))))
 
--- src/soundness.rt:178:9
 setup-fits-requires-2 : tie.Need-setup-fits-requires-2
 setup-fits-requires-2 c κs = search needs
 
--- src/soundness.rt:179:9
 returns-4 : tie.Need-returns-4
-returns-4 c = ?
+returns-4 c = facts-by (c .before .before .before .before .before .before .before .before .before .args .place .now) (passes (lt-ltb _ _ (c .before .before .before .before .before .before .if1 .left)) (passes (held (c .before .before .before .before .before .formats-fit .ensures) (c .before .before .before .before .if2 .left)) (passes (held (c .before .before .before .setup-fits .ensures) (c .before .before .if3 .left)) (stops (missed (c .before .setup-fits2 .ensures) (c .if4 .taken))))))
 
--- src/soundness.rt:181:5
 state-fits-requires : tie.Need-state-fits-requires
 state-fits-requires c κs = search needs
 
--- src/soundness.rt:165:1
 returns-5 : tie.Need-returns-5
-returns-5 c = ?
+returns-5 c = facts-by (c .before .before .before .before .before .before .before .before .before .before .args .place .now) (passes (lt-ltb _ _ (c .before .before .before .before .before .before .before .if1 .left)) (passes (held (c .before .before .before .before .before .before .formats-fit .ensures) (c .before .before .before .before .before .if2 .left)) (passes (held (c .before .before .before .before .setup-fits .ensures) (c .before .before .before .if3 .left)) (passes (held (c .before .before .setup-fits2 .ensures) (c .before .if4 .left)) (ends (c .state-fits .ensures))))))
 
 pub facts-fit-spec : {M : Type 1} → statement M
 facts-fit-spec =

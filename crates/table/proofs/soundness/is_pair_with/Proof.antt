@@ -1,31 +1,26 @@
+use mathlib.Core.Path.{sym, _∙_, ap}
+use Rattle.rules.specs.WellFormed.{isPairWith}
+use Rattle.rules.specs.Table.{viewOfTable}
+use Rattle.rules.specs.Cells.{tableAt}
+use Rattle.table.proofs.SoundnessTable.{pair-there, no-port}
 use borrow.Author.Needs.{needs}
 use Rattle.table.proofs.soundness.is_pair_with.Statement.{statement}
 use Rattle.table.proofs.soundness.is_pair_with.Tie as tie
-use Rattle.table.proofs.soundness.is_pair_with.Reads as reads
-use Rattle.table.proofs.soundness.is_pair_with.Lts as lts
-use Rattle.table.proofs.place.find.Reads as find-reads
-use Rattle.table.proofs.soundness.pair_with.Reads as pair-with-reads
-use Rattle.table.proofs.soundness.place_at.Reads as place-at-reads
 
--- src/soundness.rt:206:9
 find-requires : tie.Need-find-requires
 find-requires c κs = search needs
 
--- src/soundness.rt:208:9
 returns : tie.Need-returns
-returns c = ?
+returns c = sym (ap (isPairWith (c .before .before .before .args .member)) (no-port (c .before .before .before .args .table .now) (c .before .find .result) (viewOfTable (tableAt (c .before .before .before .args .table .now)) (c .before .before .before .args .port)) (c .before .find .ensures .1) (c .if1 .taken)))
 
--- src/soundness.rt:210:15
 place-at-requires : tie.Need-place-at-requires
 place-at-requires c κs = search needs
 
--- src/soundness.rt:210:5
 pair-with-requires : tie.Need-pair-with-requires
 pair-with-requires c κs = search needs
 
--- src/soundness.rt:202:1
 returns-2 : tie.Need-returns-2
-returns-2 c = ?
+returns-2 c = c .pair-with .ensures ∙ pair-there (c .before .before .before .before .before .args .table .now) (c .before .place-at .result .now) (c .before .before .before .find .result) (c .before .before .before .before .before .args .member) (viewOfTable (tableAt (c .before .before .before .before .before .args .table .now)) (c .before .before .before .before .before .args .port)) (c .before .before .before .find .ensures .1) (c .before .before .if1 .left) (c .before .place-at .ensures .0)
 
 pub is-pair-with-spec : {M : Type 1} → statement M
 is-pair-with-spec =

@@ -1,36 +1,34 @@
+use lib.ListN.{getD}
+use mathlib.Core.Path.{sym, _∙_, ap}
+use borrow.Author.Tests.{eq-eqb}
+use Rattle.rules.specs.WellFormed.{pairWith}
+use mathlib.Core.Bool.{Bool, _||_}
+use lib.Dec.{eqb}
+use Rattle.table.proofs.SoundnessRecord.{wiring-unjoined, wiring-joined, wiring-virtual, member-by}
 use borrow.Author.Needs.{needs}
 use Rattle.table.proofs.soundness.pair_with.Statement.{statement}
 use Rattle.table.proofs.soundness.pair_with.Tie as tie
-use Rattle.table.proofs.soundness.pair_with.Reads as reads
-use Rattle.table.proofs.soundness.pair_with.Lts as lts
 
--- src/soundness.rt:189:11
 shared-slice-read-match : tie.Need-shared-slice-read-match
 shared-slice-read-match c = search needs
 
--- src/soundness.rt:193:16
 shared-slice-read-if1 : tie.Need-shared-slice-read-if1
 shared-slice-read-if1 c = search needs
 
--- src/soundness.rt:194:17
 returns : tie.Need-returns
-returns c = ?
+returns c = sym (ap (pairWith (c .before .before .before .before .args .member)) (wiring-virtual (getD (c .before .before .before .before .args .place .now) 0 0) (getD (c .before .before .before .before .args .place .now) 3 0) (getD (c .before .before .before .before .args .place .now) 4 0) (c .before .before .match .rest .0 .1) (c .before .before .match .rest .1)) ∙ ap (λ (b : Bool). b || eqb (getD (c .before .before .before .before .args .place .now) 4 0) (c .before .before .before .before .args .member)) (eq-eqb _ _ (c .if1 .taken)))
 
--- src/soundness.rt:196:13
 shared-slice-read-result : tie.Need-shared-slice-read-result
 shared-slice-read-result c = search needs
 
--- src/soundness.rt:185:1
 returns-2 : tie.Need-returns-2
-returns-2 c = ?
+returns-2 c = sym (ap (pairWith (c .before .before .args .member)) (wiring-unjoined (getD (c .before .before .args .place .now) 0 0) (getD (c .before .before .args .place .now) 3 0) (getD (c .before .before .args .place .now) 4 0) (c .match .keys1)))
 
--- src/soundness.rt:185:1
 returns-3 : tie.Need-returns-3
-returns-3 c = ?
+returns-3 c = sym (ap (pairWith (c .before .before .args .member)) (wiring-joined (getD (c .before .before .args .place .now) 0 0) (getD (c .before .before .args .place .now) 3 0) (getD (c .before .before .args .place .now) 4 0) (c .match .keys2)))
 
--- src/soundness.rt:185:1
 returns-4 : tie.Need-returns-4
-returns-4 c = ?
+returns-4 c = member-by (getD (c .before .before .before .before .before .args .place .now) 3 0) (getD (c .before .before .before .before .before .args .place .now) 4 0) (c .before .before .before .before .before .args .member) (c .before .if1 .left) ∙ sym (ap (pairWith (c .before .before .before .before .before .args .member)) (wiring-virtual (getD (c .before .before .before .before .before .args .place .now) 0 0) (getD (c .before .before .before .before .before .args .place .now) 3 0) (getD (c .before .before .before .before .before .args .place .now) 4 0) (c .before .before .before .match .rest .0 .1) (c .before .before .before .match .rest .1)))
 
 pub pair-with-spec : {M : Type 1} → statement M
 pair-with-spec =

@@ -1,34 +1,29 @@
+use borrow.Author.Tests.{lt-ltb, le-ltb}
+use Rattle.table.proofs.InOrder.{stops, passes, ends, missed, held}
+use Rattle.table.proofs.SoundnessRecord.{record-by}
+use Rattle.rules.specs.Table.{viewOfTable}
+use Rattle.rules.specs.Cells.{tableAt}
 use borrow.Author.Needs.{needs}
 use Rattle.table.proofs.soundness.record_fits.Statement.{statement}
 use Rattle.table.proofs.soundness.record_fits.Tie as tie
-use Rattle.table.proofs.soundness.record_fits.Reads as reads
-use Rattle.table.proofs.soundness.record_fits.Lts as lts
-use Rattle.table.proofs.soundness.facts_fit.Reads as facts-fit-reads
-use Rattle.table.proofs.soundness.wiring_fits.Reads as wiring-fits-reads
 
--- src/soundness.rt:284:15
 shared-slice-read-if1 : tie.Need-shared-slice-read-if1
 shared-slice-read-if1 c = search needs
 
--- src/soundness.rt:285:9
 returns : tie.Need-returns
-returns c = ?
+returns c = record-by (viewOfTable (tableAt (c .before .before .before .before .args .table .now))) (c .before .before .before .before .args .place .now) (stops (le-ltb _ _ (c .if1 .taken)))
 
--- src/soundness.rt:287:9
 facts-fit-requires : tie.Need-facts-fit-requires
 facts-fit-requires c κs = search needs
 
--- src/soundness.rt:288:9
 returns-2 : tie.Need-returns-2
-returns-2 c = ?
+returns-2 c = record-by (viewOfTable (tableAt (c .before .before .before .before .before .before .args .table .now))) (c .before .before .before .before .before .before .args .place .now) (passes (lt-ltb _ _ (c .before .before .if1 .left)) (stops (missed (c .before .facts-fit .ensures) (c .if2 .taken))))
 
--- src/soundness.rt:290:5
 wiring-fits-requires : tie.Need-wiring-fits-requires
 wiring-fits-requires c κs = search needs
 
--- src/soundness.rt:280:1
 returns-3 : tie.Need-returns-3
-returns-3 c = ?
+returns-3 c = record-by (viewOfTable (tableAt (c .before .before .before .before .before .before .before .args .table .now))) (c .before .before .before .before .before .before .before .args .place .now) (passes (lt-ltb _ _ (c .before .before .before .if1 .left)) (passes (held (c .before .before .facts-fit .ensures) (c .before .if2 .left)) (ends (c .wiring-fits .ensures))))
 
 pub record-fits-spec : {M : Type 1} → statement M
 record-fits-spec =

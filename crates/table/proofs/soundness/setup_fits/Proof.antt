@@ -1,48 +1,40 @@
+use Prim.Native.Nat.{_+_}
+use native.Mathlib.Omega.{arith}
+use lib.ListN.{getD}
+use Rattle.table.proofs.SoundnessRecord.{setup-none, setup-high, setup-some}
 use borrow.Author.Needs.{needs}
 use Rattle.table.proofs.soundness.setup_fits.Statement.{statement}
 use Rattle.table.proofs.soundness.setup_fits.Tie as tie
-use Rattle.table.proofs.soundness.setup_fits.Reads as reads
-use Rattle.table.proofs.soundness.setup_fits.Lts as lts
 
--- src/soundness.rt:90:8
 mul-if1 : tie.Need-mul-if1
 mul-if1 c = search needs
 
--- src/soundness.rt:90:8
 shared-slice-read-if1 : tie.Need-shared-slice-read-if1
 shared-slice-read-if1 c = search needs
 
--- src/soundness.rt:91:9
 returns : tie.Need-returns
-returns c = ?
+returns c = setup-none (getD (c .before .before .args .place .now) (c .before .before .args .at) 0) (getD (c .before .before .args .place .now) (c .before .before .args .at + 1) 0) (getD (c .before .before .args .place .now) (c .before .before .args .at + 2) 0) (c .if1 .taken)
 
--- src/soundness.rt:93:13
 mul-if2 : tie.Need-mul-if2
 mul-if2 c = search needs
 
--- src/soundness.rt:93:13
 shared-slice-read-if2 : tie.Need-shared-slice-read-if2
 shared-slice-read-if2 c = search needs
 
--- src/soundness.rt:94:9
 returns-2 : tie.Need-returns-2
-returns-2 c = ?
+returns-2 c = setup-high (getD (c .before .before .before .before .args .place .now) (c .before .before .before .before .args .at) 0) (getD (c .before .before .before .before .args .place .now) (c .before .before .before .before .args .at + 1) 0) (getD (c .before .before .before .before .args .place .now) (c .before .before .before .before .args .at + 2) 0) (c .if2 .taken)
 
--- src/soundness.rt:96:11
 add-result : tie.Need-add-result
 add-result c = search needs
 
--- src/soundness.rt:96:5
 mul-result : tie.Need-mul-result
 mul-result c = search needs
 
--- src/soundness.rt:96:5
 shared-slice-read-result : tie.Need-shared-slice-read-result
 shared-slice-read-result c = search needs
 
--- src/soundness.rt:86:1
 returns-3 : tie.Need-returns-3
-returns-3 c = ?
+returns-3 c = setup-some (getD (c .before .before .before .before .before .args .place .now) (c .before .before .before .before .before .args .at) 0) (getD (c .before .before .before .before .before .args .place .now) (c .before .before .before .before .before .args .at + 1) 0) (getD (c .before .before .before .before .before .args .place .now) (c .before .before .before .before .before .args .at + 2) 0) (c .before .before .before .if1 .left) (c .before .if2 .left) (omega (arith, c .shared-slice-known3 .given (c .before .before .before .before .before .args .at + 1)))
 
 pub setup-fits-spec : {M : Type 1} → statement M
 setup-fits-spec =

@@ -1,57 +1,45 @@
+use lib.ListN.{getD}
+use mathlib.Core.Path.{sym, _∙_}
+use Rattle.table.proofs.SoundnessRecord.{state-none, state-asked, state-unanswered, state-same, state-differs}
 use borrow.Author.Needs.{needs}
 use Rattle.table.proofs.soundness.state_fits.Statement.{statement}
 use Rattle.table.proofs.soundness.state_fits.Tie as tie
-use Rattle.table.proofs.soundness.state_fits.Reads as reads
-use Rattle.table.proofs.soundness.state_fits.Lts as lts
-use Rattle.table.proofs.soundness.same_setups.Reads as same-setups-reads
 
--- src/soundness.rt:149:8
 shared-slice-read-if1 : tie.Need-shared-slice-read-if1
 shared-slice-read-if1 c = search needs
 
--- src/soundness.rt:150:16
 shared-slice-read-result : tie.Need-shared-slice-read-result
 shared-slice-read-result c = search needs
 
--- src/soundness.rt:150:9
 returns : tie.Need-returns
-returns c = ?
+returns c = state-none (getD (c .before .before .before .before .args .place .now) 6 0) (getD (c .before .before .before .before .args .place .now) 7 0) (getD (c .before .before .before .before .args .place .now) 8 0) (getD (c .before .before .before .before .args .place .now) 9 0) (getD (c .before .before .before .before .args .place .now) 10 0) (getD (c .before .before .before .before .args .place .now) 11 0) (getD (c .before .before .before .before .args .place .now) 5 0) (c .before .if1 .taken)
 
--- src/soundness.rt:152:8
 shared-slice-read-if2 : tie.Need-shared-slice-read-if2
 shared-slice-read-if2 c = search needs
 
--- src/soundness.rt:153:9
 returns-2 : tie.Need-returns-2
-returns-2 c = ?
+returns-2 c = state-asked (getD (c .before .before .before .before .before .args .place .now) 6 0) (getD (c .before .before .before .before .before .args .place .now) 7 0) (getD (c .before .before .before .before .before .args .place .now) 8 0) (getD (c .before .before .before .before .before .args .place .now) 9 0) (getD (c .before .before .before .before .before .args .place .now) 10 0) (getD (c .before .before .before .before .before .args .place .now) 11 0) (getD (c .before .before .before .before .before .args .place .now) 5 0) (c .before .before .if1 .left) (c .if2 .taken)
 
--- src/soundness.rt:155:8
 shared-slice-read-if3 : tie.Need-shared-slice-read-if3
 shared-slice-read-if3 c = search needs
 
--- src/soundness.rt:156:9
 returns-3 : tie.Need-returns-3
-returns-3 c = ?
+returns-3 c = state-unanswered (getD (c .before .before .before .before .before .before .before .args .place .now) 6 0) (getD (c .before .before .before .before .before .before .before .args .place .now) 7 0) (getD (c .before .before .before .before .before .before .before .args .place .now) 8 0) (getD (c .before .before .before .before .before .before .before .args .place .now) 9 0) (getD (c .before .before .before .before .before .before .before .args .place .now) 10 0) (getD (c .before .before .before .before .before .before .before .args .place .now) 11 0) (getD (c .before .before .before .before .before .before .before .args .place .now) 5 0) (c .before .before .before .before .if1 .left) (c .before .before .if2 .left) (c .if3 .taken)
 
--- src/soundness.rt:158:8
 same-setups-requires : tie.Need-same-setups-requires
 same-setups-requires c κs = search needs
 
--- src/soundness.rt:159:16
 shared-slice-read-result-2 : tie.Need-shared-slice-read-result-2
 shared-slice-read-result-2 c = search needs
 
--- src/soundness.rt:159:9
 returns-4 : tie.Need-returns-4
-returns-4 c = ?
+returns-4 c = state-same (c .before .before .before .before .before .before .before .before .before .before .args .place .now) (c .before .before .before .before .before .before .before .if1 .left) (c .before .before .before .before .before .if2 .left) (c .before .before .before .if3 .left) (sym (c .before .before .same-setups .ensures) ∙ c .before .if4 .taken)
 
--- src/soundness.rt:161:5
 shared-slice-read-result-3 : tie.Need-shared-slice-read-result-3
 shared-slice-read-result-3 c = search needs
 
--- src/soundness.rt:145:1
 returns-5 : tie.Need-returns-5
-returns-5 c = ?
+returns-5 c = state-differs (c .before .before .before .before .before .before .before .before .before .before .args .place .now) (c .before .before .before .before .before .before .before .if1 .left) (c .before .before .before .before .before .if2 .left) (c .before .before .before .if3 .left) (sym (c .before .before .same-setups .ensures) ∙ c .before .if4 .left)
 
 pub state-fits-spec : {M : Type 1} → statement M
 state-fits-spec =
