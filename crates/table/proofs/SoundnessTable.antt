@@ -108,6 +108,9 @@ formats-stop place m h k e = formats-next place m h k ∙ ap (λ (b : Bool). b &
 pub formats-pass : (place : List ℕ) (m : ℕ) → m ≤ 16 → 0 < m → formatFits (formatAt (getD place (12 + (m - 1)) 0)) ≡ true → formatsBelow place m ≡ formatsBelow place (m - 1)
 formats-pass place m h k e = formats-next place m h k ∙ ap (λ (b : Bool). b && formatsBelow place (m - 1)) e
 
+pub formats-none : (place : List ℕ) (m : ℕ) → m ≤ 0 → formatsBelow place m ≡ true
+formats-none place m h = let zero-left : m ≡ 0 = omega arith in ap (formatsBelow place) zero-left
+
 -- ---- the places from an index on
 
 has-or-later : (port : ℕ) (p : Option Record) (t : Table) → known (viewOfTable (p ∷ t) port) ≡ (placeHas port p || known (viewOfTable t port))

@@ -1,51 +1,42 @@
+use Prim.Native.Nat.{_+_, _-_, _≤_}
+use native.Mathlib.Omega.{arith}
+use mathlib.Core.Path.{_≡_, refl, sym, _∙_}
+use Rattle.table.proofs.SoundnessTable.{standsFrom, stands-here, stands-later, stands-nowhere}
 use Rattle.table.proofs.soundness.again_later.Statement.{statement}
 use Rattle.table.proofs.soundness.again_later.Tie as tie
-use Rattle.table.proofs.soundness.again_later.Reads as reads
-use Rattle.table.proofs.soundness.again_later.Lts as lts
-use Rattle.table.proofs.soundness.has.Reads as has-reads
-use Rattle.table.proofs.soundness.place_at.Reads as place-at-reads
 
 abbrev Inv-loop : tie.InvT-loop
-Inv-loop table i port j₀ j = ?
+Inv-loop table i port j₀ j = (j ≤ 16) × (standsFrom table (i + 1) port ≡ standsFrom table j port)
 
 abbrev μ-loop : tie.MeasureT-loop
-μ-loop table i port j₀ j = ?
+μ-loop table i port j₀ j = 16 - j
 
--- src/soundness.rt:309:17
 add-j : tie.Need-add-j Inv-loop μ-loop
-add-j c = ?
+add-j c = record { fits = omega (arith, c .before .pre .1) }
 
--- src/soundness.rt:310:5
 loop-holds : tie.Need-loop-holds Inv-loop μ-loop
-loop-holds c = ?
+loop-holds c = (omega (arith, c .before .pre .1), refl)
 
--- src/soundness.rt:311:16
 place-at-requires : tie.Need-place-at-requires Inv-loop μ-loop
-place-at-requires c κs = ?
+place-at-requires c κs = (c .before .before .before .pre .0, c .loop-test .taken)
 
--- src/soundness.rt:311:12
 has-requires : tie.Need-has-requires Inv-loop μ-loop
-has-requires c κs = ?
+has-requires c κs = c .place-at .ensures .1
 
--- src/soundness.rt:312:13
 returns : tie.Need-returns Inv-loop μ-loop
-returns c = ?
+returns c = sym (c .before .before .before .before .loop .inv .1 ∙ stands-here (c .before .before .before .before .before .before .args .table .now) (c .before .before .place-at .result .now) (c .before .before .before .before .loop .j) (c .before .before .before .before .before .before .args .port) (c .before .before .before .loop-test .taken) (c .before .before .place-at .ensures .0) (sym (c .before .has .ensures) ∙ c .if1 .taken))
 
--- src/soundness.rt:314:9
 add-j-2 : tie.Need-add-j-2 Inv-loop μ-loop
-add-j-2 c = ?
+add-j-2 c = record { fits = omega (arith, c .before .before .before .loop-test .taken) }
 
--- src/soundness.rt:310:5
 loop-less : tie.Need-loop-less Inv-loop μ-loop
-loop-less c = ?
+loop-less c = omega (arith, c .before .before .before .loop-test .taken)
 
--- src/soundness.rt:310:5
 loop-again : tie.Need-loop-again Inv-loop μ-loop
-loop-again c = ?
+loop-again c = (omega (arith, c .before .before .before .loop-test .taken), c .before .before .before .before .loop .inv .1 ∙ stands-later (c .before .before .before .before .before .before .args .table .now) (c .before .before .place-at .result .now) (c .before .before .before .before .loop .j) (c .before .before .before .before .before .before .args .port) (c .before .before .before .loop-test .taken) (c .before .before .place-at .ensures .0) (sym (c .before .has .ensures) ∙ c .if1 .left))
 
--- src/soundness.rt:305:1
 returns-2 : tie.Need-returns-2 Inv-loop μ-loop
-returns-2 c = ?
+returns-2 c = sym (c .before .loop .inv .1 ∙ stands-nowhere (c .before .before .before .args .table .now) (c .before .loop .j) (c .before .before .before .args .port) (c .loop-test .left))
 
 pub again-later-spec : {M : Type 1} → statement M
 again-later-spec =

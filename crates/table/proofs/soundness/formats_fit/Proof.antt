@@ -1,54 +1,47 @@
+use Prim.Native.Nat.{_-_, _≤_, _<_}
+use native.Mathlib.Omega.{arith}
+use mathlib.Core.Path.{_≡_, refl, sym, _∙_, ap}
+use Rattle.table.specs.Soundness.{formatsInFit}
+use Rattle.table.proofs.InOrder.{missed, held}
+use Rattle.table.proofs.SoundnessTable.{formatsBelow, formats-start, formats-stop, formats-pass, formats-none}
 use Rattle.table.proofs.soundness.formats_fit.Statement.{statement}
 use Rattle.table.proofs.soundness.formats_fit.Tie as tie
-use Rattle.table.proofs.soundness.formats_fit.Reads as reads
-use Rattle.table.proofs.soundness.formats_fit.Lts as lts
-use Rattle.table.proofs.soundness.format_fits.Reads as format-fits-reads
 
 abbrev Inv-loop : tie.InvT-loop
-Inv-loop place mode₀ mode = ?
+Inv-loop place mode₀ mode = (mode ≤ 16) × (formatsInFit place ≡ formatsBelow place mode)
 
 abbrev μ-loop : tie.MeasureT-loop
-μ-loop place mode₀ mode = ?
+μ-loop place mode₀ mode = mode
 
--- src/soundness.rt:135:5
 loop-holds : tie.Need-loop-holds Inv-loop μ-loop
-loop-holds c = ?
+loop-holds c = (omega arith, formats-start (c .before .args .place .now))
 
--- src/soundness.rt:136:9
 sub-mode : tie.Need-sub-mode Inv-loop μ-loop
-sub-mode c = ?
+sub-mode c = c .loop-test .taken
 
--- src/soundness.rt:137:31
 add-format-fits : tie.Need-add-format-fits Inv-loop μ-loop
-add-format-fits c = ?
+add-format-fits c = record { fits = omega (arith, c .before .loop .inv .0) }
 
--- src/soundness.rt:137:25
 mul-format-fits : tie.Need-mul-format-fits Inv-loop μ-loop
-mul-format-fits c = ?
+mul-format-fits c = record { fits = omega (arith, c .before .loop .inv .0) }
 
--- src/soundness.rt:137:25
 shared-slice-read-format-fits : tie.Need-shared-slice-read-format-fits Inv-loop μ-loop
-shared-slice-read-format-fits c = ?
+shared-slice-read-format-fits c = omega (arith, c .before .before .before .before .pre, c .before .before .loop .inv .0, c .before .loop-test .taken)
 
--- src/soundness.rt:137:13
 format-fits-requires : tie.Need-format-fits-requires Inv-loop μ-loop
-format-fits-requires c κs = ?
+format-fits-requires c κs = tt
 
--- src/soundness.rt:138:13
 returns : tie.Need-returns Inv-loop μ-loop
-returns c = ?
+returns c = sym (c .before .before .before .before .loop .inv .1 ∙ formats-stop (c .before .before .before .before .before .before .args .place .now) (c .before .before .before .before .loop .mode) (c .before .before .before .before .loop .inv .0) (c .before .before .before .loop-test .taken) (missed (c .before .format-fits .ensures) (c .if1 .taken)))
 
--- src/soundness.rt:135:5
 loop-less : tie.Need-loop-less Inv-loop μ-loop
-loop-less c = ?
+loop-less c = omega (arith, c .before .before .before .loop-test .taken)
 
--- src/soundness.rt:135:5
 loop-again : tie.Need-loop-again Inv-loop μ-loop
-loop-again c = ?
+loop-again c = (omega (arith, c .before .before .before .before .loop .inv .0), c .before .before .before .before .loop .inv .1 ∙ formats-pass (c .before .before .before .before .before .before .args .place .now) (c .before .before .before .before .loop .mode) (c .before .before .before .before .loop .inv .0) (c .before .before .before .loop-test .taken) (held (c .before .format-fits .ensures) (c .if1 .left)))
 
--- src/soundness.rt:130:1
 returns-2 : tie.Need-returns-2 Inv-loop μ-loop
-returns-2 c = ?
+returns-2 c = sym (c .before .loop .inv .1 ∙ formats-none (c .before .before .before .args .place .now) (c .before .loop .mode) (c .loop-test .left))
 
 pub formats-fit-spec : {M : Type 1} → statement M
 formats-fit-spec =

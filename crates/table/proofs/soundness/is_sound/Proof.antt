@@ -1,46 +1,41 @@
+use Prim.Native.Nat.{_-_, _≤_}
+use native.Mathlib.Omega.{arith}
+use mathlib.Core.Path.{_≡_, sym, _∙_}
+use Rattle.rules.specs.Cells.{sound}
+use Rattle.table.proofs.InOrder.{missed, held}
+use Rattle.table.proofs.SoundnessTable.{soundFrom, sound-start, sound-stops, sound-passes, sound-done, wrong-size}
 use Rattle.table.proofs.soundness.is_sound.Statement.{statement}
 use Rattle.table.proofs.soundness.is_sound.Tie as tie
-use Rattle.table.proofs.soundness.is_sound.Reads as reads
-use Rattle.table.proofs.soundness.is_sound.Lts as lts
-use Rattle.table.proofs.soundness.is_sound_place.Reads as is-sound-place-reads
 
 abbrev Inv-loop : tie.InvT-loop
-Inv-loop table i₀ i = ?
+Inv-loop table i₀ i = (i ≤ 16) × (sound table ≡ soundFrom table i)
 
 abbrev μ-loop : tie.MeasureT-loop
-μ-loop table i₀ i = ?
+μ-loop table i₀ i = 16 - i
 
--- src/soundness.rt:342:9
 returns : tie.Need-returns Inv-loop μ-loop
-returns c = ?
+returns c = wrong-size (c .before .before .args .table .now) (c .if1 .taken)
 
--- src/soundness.rt:345:5
 loop-holds : tie.Need-loop-holds Inv-loop μ-loop
-loop-holds c = ?
+loop-holds c = (omega arith, sound-start (c .before .before .args .table .now))
 
--- src/soundness.rt:346:13
 is-sound-place-requires : tie.Need-is-sound-place-requires Inv-loop μ-loop
-is-sound-place-requires c κs = ?
+is-sound-place-requires c κs = (c .before .before .if1 .left, c .loop-test .taken)
 
--- src/soundness.rt:347:13
 returns-2 : tie.Need-returns-2 Inv-loop μ-loop
-returns-2 c = ?
+returns-2 c = sym (c .before .before .before .loop .inv .1 ∙ sound-stops (c .before .before .before .before .before .before .args .table .now) (c .before .before .before .loop .i) (c .before .before .before .before .if1 .left) (c .before .before .loop-test .taken) (missed (c .before .is-sound-place .ensures) (c .if2 .taken)))
 
--- src/soundness.rt:349:9
 add-i : tie.Need-add-i Inv-loop μ-loop
-add-i c = ?
+add-i c = record { fits = omega (arith, c .before .before .loop-test .taken) }
 
--- src/soundness.rt:345:5
 loop-less : tie.Need-loop-less Inv-loop μ-loop
-loop-less c = ?
+loop-less c = omega (arith, c .before .before .loop-test .taken)
 
--- src/soundness.rt:345:5
 loop-again : tie.Need-loop-again Inv-loop μ-loop
-loop-again c = ?
+loop-again c = (omega (arith, c .before .before .loop-test .taken), c .before .before .before .loop .inv .1 ∙ sound-passes (c .before .before .before .before .before .before .args .table .now) (c .before .before .before .loop .i) (c .before .before .before .before .if1 .left) (c .before .before .loop-test .taken) (held (c .before .is-sound-place .ensures) (c .if2 .left)))
 
--- src/soundness.rt:338:1
 returns-3 : tie.Need-returns-3 Inv-loop μ-loop
-returns-3 c = ?
+returns-3 c = sym (c .before .loop .inv .1 ∙ sound-done (c .before .before .before .before .args .table .now) (c .before .loop .i) (c .before .before .if1 .left) (c .loop-test .left))
 
 pub is-sound-spec : {M : Type 1} → statement M
 is-sound-spec =
