@@ -24,7 +24,7 @@ fromPlace cells i = placesAt (16 - i) (drop (28 * i) cells)
 pub cell : (cells : List ℕ) (i k : ℕ) → k < 28 → getD (placeAtIndex cells i) k 0 ≡ getD cells (28 * i + k) 0
 cell cells i k h = getD-take 28 (drop (28 * i) cells) k 0 h ∙ getD-drop (28 * i) cells k 0
 
-next : (cells : List ℕ) (i : ℕ) → i < 16 → fromPlace cells i ≡ placeAt (placeAtIndex cells i) ∷ fromPlace cells (i + 1)
+pub next : (cells : List ℕ) (i : ℕ) → i < 16 → fromPlace cells i ≡ placeAt (placeAtIndex cells i) ∷ fromPlace cells (i + 1)
 next cells i h =
     let more : 16 - i ≡ suc (16 - (i + 1)) = omega arith in
     let place : 28 * i + 28 ≡ 28 * (i + 1) = omega arith in

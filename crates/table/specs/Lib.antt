@@ -1,3 +1,4 @@
 pub mod Handed
 pub mod Place
 pub mod Query
+pub mod Soundness

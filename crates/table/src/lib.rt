@@ -3,4 +3,5 @@ mod hand;
 mod judge;
 mod place;
 pub mod query;
+mod soundness;
 pub mod value;
