@@ -1,6 +1,7 @@
 pub mod InOrder
 pub mod Numbers
 pub mod Places
+pub mod Queries
 pub mod Records
 pub mod Values
 pub mod SoundnessExact

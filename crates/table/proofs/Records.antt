@@ -88,7 +88,7 @@ disconnect-at cells i h = ap judgeDisconnect (some-at cells i h) ∙ ap (λ (w :
 -- ---- a sound table's fields are within their lists
 
 module _ (cells : List ℕ) (i port : ℕ) (s : sound cells ≡ true) (h : i < 16) (found : viewOfTable (tableAt cells) port ≡ factsAt cells i) where
-  fit : Fit port (here cells i)
+  pub fit : Fit port (here cells i)
   fit = table-sound cells s .loose .fit port (here cells i) (found ∙ some-at cells i h)
 
   pub passed : (ltb (here cells i .device) 65536 ≡ true) × (formatsFit 16 (here cells i .formats) ≡ true) × (setupFits (here cells i .answered) ≡ true) × (setupFits (here cells i .asked) ≡ true) × (stateFits (here cells i .asked) (here cells i .answered) (here cells i .state) ≡ true)

@@ -94,7 +94,7 @@ exact-by c size k =
     ∙ sym (ap (λ (l : List ℕ). sameCells l (recordCells (recordAt c))) (first-cells c 0 12 (omega arith))
     ∙ front-same w (getD c 0 0) (getD c 1 0) (getD c 2 0) (getD c 3 0) (getD c 4 0) (getD c 5 0) (some-cells c 6 6 ++ fs) (setupCells (setupIn c 6) ++ setupCells (setupIn c 9) ++ gs)
     ∙ ap (λ (t : Bool). wires && t)
-        (setups-same (getD c 6 0) (getD c 7 0) (getD c 8 0) (getD c 9 0) (getD c 10 0) (getD c 11 0) fs gs
-        ∙ ap (λ (t : Bool). asked && answered && t) (formats-same fs sixteen)
-        ∙ and-true (asked && answered))
+    (setups-same (getD c 6 0) (getD c 7 0) (getD c 8 0) (getD c 9 0) (getD c 10 0) (getD c 11 0) fs gs
+    ∙ ap (λ (t : Bool). asked && answered && t) (formats-same fs sixteen)
+    ∙ and-true (asked && answered))
     ∙ sym (and-assoc wires asked answered))

@@ -2,33 +2,25 @@
 use crate::place::find;
 ghost use mathlib.Core.Path.{_≡_};
 ghost use mathlib.Core.Bool.{true};
-ghost use Prim.Native.Nat.{_*_, _+_, _<_, _≤_};
+ghost use Prim.Native.Nat.{_+_, _<_};
 ghost use lib.ListN.{getD, length};
 ghost use Rattle.rules.specs.Table.{viewOfTable};
+ghost use Rattle.rules.specs.WellFormed.{setupFits};
 ghost use Rattle.rules.specs.Cells.{firstPartner, formatAt, secondPartner, setupAt, sound, tableAt};
-ghost use Rattle.table.specs.Place.{factsAt, wiringHere};
+ghost use Rattle.table.specs.Place.{wiringHere};
 ghost use Rattle.table.specs.Query.{formatAnswer, formatIn, formatSaid, portAnswer, portSaid, setupSaid, wiringSaid};
 
 // An input format setup that was asked for or answered, or that none was.
 pub enum Setup {
     Never,
-    Last {
-        mode: u8,
-        delta: u32,
-        notify: u8,
-    },
+    Last { mode: u8, delta: u32, notify: u8 },
 }
 
 // A port is physical, and joined to a virtual port or not; or it is virtual, with its two members.
 pub enum Wiring {
     Unjoined,
-    Joined {
-        port: u8,
-    },
-    Virtual {
-        port_a: u8,
-        port_b: u8,
-    },
+    Joined { port: u8 },
+    Virtual { port_a: u8, port_b: u8 },
 }
 
 // What is known of a port, its formats left out.
@@ -64,7 +56,7 @@ pub enum Format {
 
 // The setup whose three cells start at an index.
 fn setup_at(table: &[u32], at: usize) -> Setup
-    requires { ⌜ (at + 2 < length (now table)) × (getD (now table) at 0 ≤ 16) × (getD (now table) (at + 2) 0 < 256) × (length (now table) ≡ 448) ⌝ }
+    requires { ⌜ (length (now table) ≡ 448) × (at + 2 < 448) × (setupFits (setupAt (getD (now table) at 0) (getD (now table) (at + 1) 0) (getD (now table) (at + 2) 0)) ≡ true) ⌝ }
     ensures { λ r. ⌜ setupSaid r ≡ setupAt (getD (now (table .entry)) at 0) (getD (now (table .entry)) (at + 1) 0) (getD (now (table .entry)) (at + 2) 0) ⌝ }
 {
     let mode = table[at];

@@ -1,3 +1,10 @@
+use Prim.Native.Nat.{ℕ, _+_}
+use native.Mathlib.Omega.{arith}
+use mathlib.Core.Path.{sym, ap}
+use lib.ListN.{getD}
+use Rattle.rules.specs.Cells.{setupAt}
+use Rattle.table.proofs.Queries.{setup-some, small-setup}
+use Rattle.table.proofs.Records.{positive}
 use borrow.Author.Needs.{needs}
 use Rattle.table.proofs.query.setup_at.Statement.{statement}
 use Rattle.table.proofs.query.setup_at.Tie as tie
@@ -9,13 +16,13 @@ shared-slice-read-mode : tie.Need-shared-slice-read-mode
 shared-slice-read-mode c = search needs
 
 returns : tie.Need-returns
-returns c = ?
+returns c = sym (ap (λ (m : ℕ). setupAt m (getD (c .before .before .args .table .now) (c .before .before .args .at + 1) 0) (getD (c .before .before .args .table .now) (c .before .before .args .at + 2) 0)) (c .if1 .taken))
 
 sub-t6 : tie.Need-sub-t6
 sub-t6 c = search needs
 
 cast-t8 : tie.Need-cast-t8
-cast-t8 c = search needs
+cast-t8 c = record { fits = omega (arith, small-setup (getD (c .before .before .args .table .now) (c .before .before .args .at) 0) (getD (c .before .before .args .table .now) (c .before .before .args .at + 1) 0) (getD (c .before .before .args .table .now) (c .before .before .args .at + 2) 0) (c .if1 .left) (c .before .before .pre .2) .mode, small-setup (getD (c .before .before .args .table .now) (c .before .before .args .at) 0) (getD (c .before .before .args .table .now) (c .before .before .args .at + 1) 0) (getD (c .before .before .args .table .now) (c .before .before .args .at + 2) 0) (c .if1 .left) (c .before .before .pre .2) .notify) }
 
 add-t4 : tie.Need-add-t4
 add-t4 c = search needs
@@ -36,10 +43,10 @@ shared-slice-read-t15 : tie.Need-shared-slice-read-t15
 shared-slice-read-t15 c = search needs
 
 cast-t16 : tie.Need-cast-t16
-cast-t16 c = search needs
+cast-t16 c = record { fits = omega (arith, small-setup (getD (c .before .before .before .before .args .table .now) (c .before .before .before .before .args .at) 0) (getD (c .before .before .before .before .args .table .now) (c .before .before .before .before .args .at + 1) 0) (getD (c .before .before .before .before .args .table .now) (c .before .before .before .before .args .at + 2) 0) (c .before .before .if1 .left) (c .before .before .before .before .pre .2) .mode, small-setup (getD (c .before .before .before .before .args .table .now) (c .before .before .before .before .args .at) 0) (getD (c .before .before .before .before .args .table .now) (c .before .before .before .before .args .at + 1) 0) (getD (c .before .before .before .before .args .table .now) (c .before .before .before .before .args .at + 2) 0) (c .before .before .if1 .left) (c .before .before .before .before .pre .2) .notify) }
 
 returns-2 : tie.Need-returns-2
-returns-2 c = ?
+returns-2 c = setup-some (getD (c .before .before .before .before .args .table .now) (c .before .before .before .before .args .at) 0) (getD (c .before .before .before .before .args .table .now) (c .before .before .before .before .args .at + 1) 0) (getD (c .before .before .before .before .args .table .now) (c .before .before .before .before .args .at + 2) 0) (c .before .before .if1 .left)
 
 pub setup-at-spec : {M : Type 1} → statement M
 setup-at-spec =

@@ -1,3 +1,10 @@
+use Prim.Native.Nat.{_+_, _*_, _<_}
+use native.Mathlib.Omega.{arith}
+use mathlib.Core.Path.{sym, subst}
+use lib.ListN.{getD}
+use Rattle.rules.specs.Facts.{Wiring}
+use Rattle.rules.specs.Cells.{firstPartner, secondPartner}
+use Rattle.table.proofs.SoundnessRecord.{wiring-unjoined, wiring-joined, wiring-virtual}
 use borrow.Author.Needs.{needs}
 use Rattle.table.proofs.query.wiring_at.Statement.{statement}
 use Rattle.table.proofs.query.wiring_at.Tie as tie
@@ -24,7 +31,7 @@ shared-slice-read-t13 : tie.Need-shared-slice-read-t13
 shared-slice-read-t13 c = search needs
 
 cast-t14 : tie.Need-cast-t14
-cast-t14 c = ?
+cast-t14 c = record { fits = omega (arith, subst (λ (w : Wiring). firstPartner w < 256) (wiring-joined (getD (c .before .before .before .args .table .now) (28 * c .before .before .before .args .place) 0) (getD (c .before .before .before .args .table .now) (28 * c .before .before .before .args .place + 3) 0) (getD (c .before .before .before .args .table .now) (28 * c .before .before .before .args .place + 4) 0) (c .before .match .keys2)) (c .before .before .before .pre .2)) }
 
 mul-t15 : tie.Need-mul-t15
 mul-t15 c = search needs
@@ -39,7 +46,7 @@ shared-slice-read-t19 : tie.Need-shared-slice-read-t19
 shared-slice-read-t19 c = search needs
 
 cast-t20 : tie.Need-cast-t20
-cast-t20 c = ?
+cast-t20 c = record { fits = omega (arith, subst (λ (w : Wiring). firstPartner w < 256) (wiring-virtual (getD (c .before .before .before .args .table .now) (28 * c .before .before .before .args .place) 0) (getD (c .before .before .before .args .table .now) (28 * c .before .before .before .args .place + 3) 0) (getD (c .before .before .before .args .table .now) (28 * c .before .before .before .args .place + 4) 0) (c .before .match .rest .0 .1) (c .before .match .rest .1)) (c .before .before .before .pre .2)) }
 
 mul-t21 : tie.Need-mul-t21
 mul-t21 c = search needs
@@ -54,16 +61,16 @@ shared-slice-read-t25 : tie.Need-shared-slice-read-t25
 shared-slice-read-t25 c = search needs
 
 cast-t26 : tie.Need-cast-t26
-cast-t26 c = ?
+cast-t26 c = record { fits = omega (arith, subst (λ (w : Wiring). secondPartner w < 256) (wiring-virtual (getD (c .before .before .before .before .args .table .now) (28 * c .before .before .before .before .args .place) 0) (getD (c .before .before .before .before .args .table .now) (28 * c .before .before .before .before .args .place + 3) 0) (getD (c .before .before .before .before .args .table .now) (28 * c .before .before .before .before .args .place + 4) 0) (c .before .before .match .rest .0 .1) (c .before .before .match .rest .1)) (c .before .before .before .before .pre .3)) }
 
 returns : tie.Need-returns
-returns c = ?
+returns c = sym (wiring-unjoined (getD (c .before .before .args .table .now) (28 * c .before .before .args .place) 0) (getD (c .before .before .args .table .now) (28 * c .before .before .args .place + 3) 0) (getD (c .before .before .args .table .now) (28 * c .before .before .args .place + 4) 0) (c .match .keys1))
 
 returns-2 : tie.Need-returns-2
-returns-2 c = ?
+returns-2 c = sym (wiring-joined (getD (c .before .before .before .args .table .now) (28 * c .before .before .before .args .place) 0) (getD (c .before .before .before .args .table .now) (28 * c .before .before .before .args .place + 3) 0) (getD (c .before .before .before .args .table .now) (28 * c .before .before .before .args .place + 4) 0) (c .before .match .keys2))
 
 returns-3 : tie.Need-returns-3
-returns-3 c = ?
+returns-3 c = sym (wiring-virtual (getD (c .before .before .before .before .args .table .now) (28 * c .before .before .before .before .args .place) 0) (getD (c .before .before .before .before .args .table .now) (28 * c .before .before .before .before .args .place + 3) 0) (getD (c .before .before .before .before .args .table .now) (28 * c .before .before .before .before .args .place + 4) 0) (c .before .before .match .rest .0 .1) (c .before .before .match .rest .1))
 
 pub wiring-at-spec : {M : Type 1} → statement M
 wiring-at-spec =
