@@ -1,4 +1,4 @@
--- What soundness asks of the cells, part by part.
+-- What soundness asks of the cells of one place, part by part.
 use Prim.Native.Nat.{ℕ, _+_, _*_, _-_}
 use mathlib.Core.Bool.{Bool, true, false, not, _&&_}
 use mathlib.Core.List.{List, [], _∷_}
@@ -7,7 +7,7 @@ use lib.Dec.{eqb}
 use lib.ListN.{getD, drop}
 use Rattle.rules.specs.Facts.{Setup, Wiring, View, known}
 use Rattle.rules.specs.Table.{Record, Table, viewOfTable}
-use Rattle.rules.specs.WellFormed.{formatsFit, recordFits}
+use Rattle.rules.specs.WellFormed.{formatsFit, stateFits, recordFits}
 use Rattle.rules.specs.Cells.{setupCells, wiringCell, firstPartner, secondPartner, recordCells, placeCells, setupAt, wiringAt, recordAt, placeAt, placesAt, tableAt, sameCells}
 use Rattle.table.specs.Place.{placeAtIndex}
 
@@ -18,34 +18,38 @@ setupIn place at = setupAt (getD place at 0) (getD place (at + 1) 0) (getD place
 abbrev pub wiringIn : List ℕ → Wiring
 wiringIn place = wiringAt (getD place 0 0) (getD place 3 0) (getD place 4 0)
 
--- the cells of what was asked and of what was answered are equal
-unfoldable pub sameSetups : List ℕ → Bool
-sameSetups place = eqb (getD place 6 0) (getD place 9 0) && eqb (getD place 7 0) (getD place 10 0) && eqb (getD place 8 0) (getD place 11 0)
-
--- the formats of every mode fit
-unfoldable pub formatsInFit : List ℕ → Bool
-formatsInFit place = formatsFit 16 (recordAt place .facts .formats)
-
 -- ---- exact: the cells are those of what they stand for
 
 unfoldable pub emptyPlace : List ℕ → Bool
 emptyPlace place = sameCells place (placeCells none)
 
-unfoldable pub exactSetup : ℕ → ℕ → ℕ → Bool
-exactSetup mode delta notify = sameCells (mode ∷ delta ∷ notify ∷ []) (setupCells (setupAt mode delta notify))
+unfoldable pub exactSetup : List ℕ → ℕ → Bool
+exactSetup place at = sameCells (getD place at 0 ∷ getD place (at + 1) 0 ∷ getD place (at + 2) 0 ∷ []) (setupCells (setupIn place at))
 
-abbrev pub exactAs : Wiring → ℕ → ℕ → ℕ → Bool
-exactAs w kind a b = eqb kind (wiringCell w) && eqb a (firstPartner w) && eqb b (secondPartner w)
+abbrev pub exactAs : Wiring → List ℕ → Bool
+exactAs w place = eqb (getD place 0 0) (wiringCell w) && eqb (getD place 3 0) (firstPartner w) && eqb (getD place 4 0) (secondPartner w)
 
-unfoldable pub exactWiring : ℕ → ℕ → ℕ → Bool
-exactWiring kind a b = exactAs (wiringAt kind a b) kind a b
+unfoldable pub exactWiring : List ℕ → Bool
+exactWiring place = exactAs (wiringIn place) place
 
 unfoldable pub exactRecord : List ℕ → Bool
 exactRecord place = sameCells place (recordCells (recordAt place))
 
--- ---- one place of a table
+-- ---- within the lists, and the state by its rule
 
--- whether it has a port's record
+unfoldable pub formatsInFit : List ℕ → Bool
+formatsInFit place = formatsFit 16 (recordAt place .facts .formats)
+
+-- the cells of what was asked and of what was answered are equal
+unfoldable pub sameSetups : List ℕ → Bool
+sameSetups place = eqb (getD place 6 0) (getD place 9 0) && eqb (getD place 7 0) (getD place 10 0) && eqb (getD place 8 0) (getD place 11 0)
+
+unfoldable pub stateInFits : List ℕ → Bool
+stateInFits place = stateFits (setupIn place 6) (setupIn place 9) (getD place 5 0)
+
+-- ---- among the places of a table
+
+-- whether a place has a port's record
 abbrev pub placeHas : ℕ → Option Record → Bool
 placeHas port none = false
 placeHas port (some r) = eqb (r .port) port
@@ -54,11 +58,12 @@ placeHas port (some r) = eqb (r .port) port
 abbrev pub placesAfter : List ℕ → ℕ → Table
 placesAfter cells i = placesAt (16 - (i + 1)) (drop (28 * (i + 1)) cells)
 
--- its record fits, and its port stands in no later place
+-- a place's record fits, and its port stands in no later place
 abbrev pub placeFits : View → Table → Option Record → Bool
 placeFits view later none = true
 placeFits view later (some r) = recordFits view r && not (known (viewOfTable later (r .port)))
 
+-- the place at an index is exact and fits
 unfoldable pub soundPlace : List ℕ → ℕ → Bool
 soundPlace cells i =
     let place = placeAtIndex cells i in

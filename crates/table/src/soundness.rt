@@ -1,14 +1,13 @@
 // Whether a slice of cells is a sound table, place by place.
 ghost use mathlib.Core.Path.{_≡_};
-ghost use mathlib.Core.List.{List};
-ghost use Prim.Native.Nat.{ℕ, _+_, _≤_, _<_};
+ghost use Prim.Native.Nat.{_<_};
 ghost use lib.ListN.{length, getD};
 ghost use Rattle.rules.specs.Facts.{joined, virtual, known};
 ghost use Rattle.rules.specs.Table.{viewOfTable};
-ghost use Rattle.rules.specs.WellFormed.{setupFits, formatFits, stateFits, isJoinedTo, joinedTo, isPairWith, pairWith, wiringFits, factsFit, recordFits};
+ghost use Rattle.rules.specs.WellFormed.{setupFits, formatFits, isJoinedTo, joinedTo, isPairWith, pairWith, wiringFits, factsFit, recordFits};
 ghost use Rattle.rules.specs.Cells.{formatAt, recordAt, placeAt, tableAt, sound};
 ghost use Rattle.table.specs.Place.{placeAtIndex};
-ghost use Rattle.table.specs.Soundness.{setupIn, wiringIn, sameSetups, formatsInFit, emptyPlace, exactSetup, exactWiring, exactRecord, placeHas, placesAfter, soundPlace};
+ghost use Rattle.table.specs.Soundness.{setupIn, wiringIn, emptyPlace, exactSetup, exactWiring, exactRecord, formatsInFit, sameSetups, stateInFits, placeHas, placesAfter, soundPlace};
 use crate::place::find;
 
 // The cells of a place.
@@ -39,7 +38,7 @@ fn is_empty(place: &[u32]) -> bool
 // Whether a setup without a mode has no delta and no notify.
 fn exact_setup(place: &[u32], at: usize) -> bool
     requires { ⌜ (length (now place) ≡ 28) × (at < 26) ⌝ }
-    ensures { λ r. ⌜ r ≡ exactSetup (getD (now (place .entry)) at 0) (getD (now (place .entry)) (at + 1) 0) (getD (now (place .entry)) (at + 2) 0) ⌝ }
+    ensures { λ r. ⌜ r ≡ exactSetup (now (place .entry)) at ⌝ }
 {
     if place[at] != 0 {
         return true;
@@ -53,7 +52,7 @@ fn exact_setup(place: &[u32], at: usize) -> bool
 // Whether the wiring is one of three, and the partners that it does not have are 0.
 fn exact_wiring(place: &[u32]) -> bool
     requires { ⌜ length (now place) ≡ 28 ⌝ }
-    ensures { λ r. ⌜ r ≡ exactWiring (getD (now (place .entry)) 0 0) (getD (now (place .entry)) 3 0) (getD (now (place .entry)) 4 0) ⌝ }
+    ensures { λ r. ⌜ r ≡ exactWiring (now (place .entry)) ⌝ }
 {
     match place[0] {
         1 => {
@@ -144,7 +143,7 @@ fn formats_fit(place: &[u32]) -> bool
 // Whether the state goes by its rule.
 fn state_fits(place: &[u32]) -> bool
     requires { ⌜ length (now place) ≡ 28 ⌝ }
-    ensures { λ r. ⌜ r ≡ stateFits (setupIn (now (place .entry)) 6) (setupIn (now (place .entry)) 9) (getD (now (place .entry)) 5 0) ⌝ }
+    ensures { λ r. ⌜ r ≡ stateInFits (now (place .entry)) ⌝ }
 {
     if place[6] == 0 {
         return place[5] == 0;

@@ -1,9 +1,7 @@
-use Prim.Native.Nat.{_+_}
+use mathlib.Core.Path.{refl}
 use borrow.Author.Tests.{eq-eqb, ne-eqb}
-use lib.ListN.{getD}
 use Rattle.table.proofs.InOrder.{stops, passes, ends}
 use Rattle.table.proofs.SoundnessRecord.{exact-some, exact-none}
-use mathlib.Core.Path.{refl}
 use borrow.Author.Needs.{needs}
 use Rattle.table.proofs.soundness.exact_setup.Statement.{statement}
 use Rattle.table.proofs.soundness.exact_setup.Tie as tie
@@ -15,7 +13,7 @@ shared-slice-read-if1 : tie.Need-shared-slice-read-if1
 shared-slice-read-if1 c = search needs
 
 returns : tie.Need-returns
-returns c = exact-some (getD (c .before .before .args .place .now) (c .before .before .args .at) 0) (getD (c .before .before .args .place .now) (c .before .before .args .at + 1) 0) (getD (c .before .before .args .place .now) (c .before .before .args .at + 2) 0) (c .if1 .taken)
+returns c = exact-some (c .before .before .args .place .now) (c .before .before .args .at) (c .if1 .taken)
 
 add-if2 : tie.Need-add-if2
 add-if2 c = search needs
@@ -27,7 +25,7 @@ shared-slice-read-if2 : tie.Need-shared-slice-read-if2
 shared-slice-read-if2 c = search needs
 
 returns-2 : tie.Need-returns-2
-returns-2 c = exact-none (getD (c .before .before .before .before .args .place .now) (c .before .before .before .before .args .at) 0) (getD (c .before .before .before .before .args .place .now) (c .before .before .before .before .args .at + 1) 0) (getD (c .before .before .before .before .args .place .now) (c .before .before .before .before .args .at + 2) 0) (c .before .before .if1 .left) (stops (ne-eqb _ _ (c .if2 .taken)))
+returns-2 c = exact-none (c .before .before .before .before .args .place .now) (c .before .before .before .before .args .at) (c .before .before .if1 .left) (stops (ne-eqb _ _ (c .if2 .taken)))
 
 add-result : tie.Need-add-result
 add-result c = search needs
@@ -39,7 +37,7 @@ shared-slice-read-result : tie.Need-shared-slice-read-result
 shared-slice-read-result c = search needs
 
 returns-3 : tie.Need-returns-3
-returns-3 c = exact-none (getD (c .before .before .before .before .before .args .place .now) (c .before .before .before .before .before .args .at) 0) (getD (c .before .before .before .before .before .args .place .now) (c .before .before .before .before .before .args .at + 1) 0) (getD (c .before .before .before .before .before .args .place .now) (c .before .before .before .before .before .args .at + 2) 0) (c .before .before .before .if1 .left) (passes (eq-eqb _ _ (c .before .if2 .left)) (ends refl))
+returns-3 c = exact-none (c .before .before .before .before .before .args .place .now) (c .before .before .before .before .before .args .at) (c .before .before .before .if1 .left) (passes (eq-eqb _ _ (c .before .if2 .left)) (ends refl))
 
 pub exact-setup-spec : {M : Type 1} → statement M
 exact-setup-spec =

@@ -1,6 +1,6 @@
-use Prim.Native.Nat.{_-_, _≤_, _<_}
+use Prim.Native.Nat.{_≤_}
 use native.Mathlib.Omega.{arith}
-use mathlib.Core.Path.{_≡_, refl, sym, _∙_, ap}
+use mathlib.Core.Path.{_≡_, sym, _∙_}
 use Rattle.table.specs.Soundness.{formatsInFit}
 use Rattle.table.proofs.InOrder.{missed, held}
 use Rattle.table.proofs.SoundnessTable.{formatsBelow, formats-start, formats-stop, formats-pass, formats-none}

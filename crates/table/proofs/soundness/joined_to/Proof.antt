@@ -1,7 +1,6 @@
-use lib.ListN.{getD}
 use mathlib.Core.Path.{sym, ap}
 use Rattle.rules.specs.WellFormed.{joinedTo}
-use Rattle.table.proofs.SoundnessRecord.{wiring-joined, not-joined}
+use Rattle.table.proofs.SoundnessRecord.{is-joined, not-joined}
 use borrow.Author.Needs.{needs}
 use Rattle.table.proofs.soundness.joined_to.Statement.{statement}
 use Rattle.table.proofs.soundness.joined_to.Tie as tie
@@ -10,13 +9,13 @@ shared-slice-read-if1 : tie.Need-shared-slice-read-if1
 shared-slice-read-if1 c = search needs
 
 returns : tie.Need-returns
-returns c = not-joined (getD (c .before .before .args .place .now) 0 0) (getD (c .before .before .args .place .now) 3 0) (getD (c .before .before .args .place .now) 4 0) (c .before .before .args .pair) (c .if1 .taken)
+returns c = not-joined (c .before .before .args .place .now) (c .before .before .args .pair) (c .if1 .taken)
 
 shared-slice-read-result : tie.Need-shared-slice-read-result
 shared-slice-read-result c = search needs
 
 returns-2 : tie.Need-returns-2
-returns-2 c = sym (ap (joinedTo (c .before .before .before .args .pair)) (wiring-joined (getD (c .before .before .before .args .place .now) 0 0) (getD (c .before .before .before .args .place .now) 3 0) (getD (c .before .before .before .args .place .now) 4 0) (c .before .if1 .left)))
+returns-2 c = sym (ap (joinedTo (c .before .before .before .args .pair)) (is-joined (c .before .before .before .args .place .now) (c .before .if1 .left)))
 
 pub joined-to-spec : {M : Type 1} → statement M
 joined-to-spec =

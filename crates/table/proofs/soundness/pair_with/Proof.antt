@@ -1,10 +1,6 @@
-use lib.ListN.{getD}
-use mathlib.Core.Path.{sym, _∙_, ap}
-use borrow.Author.Tests.{eq-eqb}
+use mathlib.Core.Path.{sym, ap}
 use Rattle.rules.specs.WellFormed.{pairWith}
-use mathlib.Core.Bool.{Bool, _||_}
-use lib.Dec.{eqb}
-use Rattle.table.proofs.SoundnessRecord.{wiring-unjoined, wiring-joined, wiring-virtual, member-by}
+use Rattle.table.proofs.SoundnessRecord.{is-unjoined, is-joined, first-member, second-member}
 use borrow.Author.Needs.{needs}
 use Rattle.table.proofs.soundness.pair_with.Statement.{statement}
 use Rattle.table.proofs.soundness.pair_with.Tie as tie
@@ -16,19 +12,19 @@ shared-slice-read-if1 : tie.Need-shared-slice-read-if1
 shared-slice-read-if1 c = search needs
 
 returns : tie.Need-returns
-returns c = sym (ap (pairWith (c .before .before .before .before .args .member)) (wiring-virtual (getD (c .before .before .before .before .args .place .now) 0 0) (getD (c .before .before .before .before .args .place .now) 3 0) (getD (c .before .before .before .before .args .place .now) 4 0) (c .before .before .match .rest .0 .1) (c .before .before .match .rest .1)) ∙ ap (λ (b : Bool). b || eqb (getD (c .before .before .before .before .args .place .now) 4 0) (c .before .before .before .before .args .member)) (eq-eqb _ _ (c .if1 .taken)))
+returns c = first-member (c .before .before .before .before .args .place .now) (c .before .before .before .before .args .member) (c .before .before .match .rest .0 .1) (c .before .before .match .rest .1) (c .if1 .taken)
 
 shared-slice-read-result : tie.Need-shared-slice-read-result
 shared-slice-read-result c = search needs
 
 returns-2 : tie.Need-returns-2
-returns-2 c = sym (ap (pairWith (c .before .before .args .member)) (wiring-unjoined (getD (c .before .before .args .place .now) 0 0) (getD (c .before .before .args .place .now) 3 0) (getD (c .before .before .args .place .now) 4 0) (c .match .keys1)))
+returns-2 c = sym (ap (pairWith (c .before .before .args .member)) (is-unjoined (c .before .before .args .place .now) (c .match .keys1)))
 
 returns-3 : tie.Need-returns-3
-returns-3 c = sym (ap (pairWith (c .before .before .args .member)) (wiring-joined (getD (c .before .before .args .place .now) 0 0) (getD (c .before .before .args .place .now) 3 0) (getD (c .before .before .args .place .now) 4 0) (c .match .keys2)))
+returns-3 c = sym (ap (pairWith (c .before .before .args .member)) (is-joined (c .before .before .args .place .now) (c .match .keys2)))
 
 returns-4 : tie.Need-returns-4
-returns-4 c = member-by (getD (c .before .before .before .before .before .args .place .now) 3 0) (getD (c .before .before .before .before .before .args .place .now) 4 0) (c .before .before .before .before .before .args .member) (c .before .if1 .left) ∙ sym (ap (pairWith (c .before .before .before .before .before .args .member)) (wiring-virtual (getD (c .before .before .before .before .before .args .place .now) 0 0) (getD (c .before .before .before .before .before .args .place .now) 3 0) (getD (c .before .before .before .before .before .args .place .now) 4 0) (c .before .before .before .match .rest .0 .1) (c .before .before .before .match .rest .1)))
+returns-4 c = second-member (c .before .before .before .before .before .args .place .now) (c .before .before .before .before .before .args .member) (c .before .before .before .match .rest .0 .1) (c .before .before .before .match .rest .1) (c .before .if1 .left)
 
 pub pair-with-spec : {M : Type 1} → statement M
 pair-with-spec =

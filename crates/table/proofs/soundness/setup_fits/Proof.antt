@@ -1,7 +1,9 @@
 use Prim.Native.Nat.{_+_}
 use native.Mathlib.Omega.{arith}
-use lib.ListN.{getD}
-use Rattle.table.proofs.SoundnessRecord.{setup-none, setup-high, setup-some}
+use mathlib.Core.Path.{refl}
+use borrow.Author.Tests.{le-leb, lt-leb}
+use Rattle.table.proofs.InOrder.{stops, passes, ends}
+use Rattle.table.proofs.SoundnessRecord.{setup-none, setup-by}
 use borrow.Author.Needs.{needs}
 use Rattle.table.proofs.soundness.setup_fits.Statement.{statement}
 use Rattle.table.proofs.soundness.setup_fits.Tie as tie
@@ -13,7 +15,7 @@ shared-slice-read-if1 : tie.Need-shared-slice-read-if1
 shared-slice-read-if1 c = search needs
 
 returns : tie.Need-returns
-returns c = setup-none (getD (c .before .before .args .place .now) (c .before .before .args .at) 0) (getD (c .before .before .args .place .now) (c .before .before .args .at + 1) 0) (getD (c .before .before .args .place .now) (c .before .before .args .at + 2) 0) (c .if1 .taken)
+returns c = setup-none (c .before .before .args .place .now) (c .before .before .args .at) (c .if1 .taken)
 
 mul-if2 : tie.Need-mul-if2
 mul-if2 c = search needs
@@ -22,7 +24,7 @@ shared-slice-read-if2 : tie.Need-shared-slice-read-if2
 shared-slice-read-if2 c = search needs
 
 returns-2 : tie.Need-returns-2
-returns-2 c = setup-high (getD (c .before .before .before .before .args .place .now) (c .before .before .before .before .args .at) 0) (getD (c .before .before .before .before .args .place .now) (c .before .before .before .before .args .at + 1) 0) (getD (c .before .before .before .before .args .place .now) (c .before .before .before .before .args .at + 2) 0) (c .if2 .taken)
+returns-2 c = setup-by (c .before .before .before .before .args .place .now) (c .before .before .before .before .args .at) (c .before .before .if1 .left) (omega (arith, c .before .shared-slice-known2 .given (c .before .before .before .before .args .at + 1))) (stops (lt-leb _ _ (c .if2 .taken)))
 
 add-result : tie.Need-add-result
 add-result c = search needs
@@ -34,7 +36,7 @@ shared-slice-read-result : tie.Need-shared-slice-read-result
 shared-slice-read-result c = search needs
 
 returns-3 : tie.Need-returns-3
-returns-3 c = setup-some (getD (c .before .before .before .before .before .args .place .now) (c .before .before .before .before .before .args .at) 0) (getD (c .before .before .before .before .before .args .place .now) (c .before .before .before .before .before .args .at + 1) 0) (getD (c .before .before .before .before .before .args .place .now) (c .before .before .before .before .before .args .at + 2) 0) (c .before .before .before .if1 .left) (c .before .if2 .left) (omega (arith, c .shared-slice-known3 .given (c .before .before .before .before .before .args .at + 1)))
+returns-3 c = setup-by (c .before .before .before .before .before .args .place .now) (c .before .before .before .before .before .args .at) (c .before .before .before .if1 .left) (omega (arith, c .shared-slice-known3 .given (c .before .before .before .before .before .args .at + 1))) (passes (le-leb _ _ (c .before .if2 .left)) (ends refl))
 
 pub setup-fits-spec : {M : Type 1} → statement M
 setup-fits-spec =

@@ -1,4 +1,3 @@
-use lib.ListN.{getD}
 use mathlib.Core.Path.{sym, _∙_}
 use Rattle.table.proofs.SoundnessRecord.{state-none, state-asked, state-unanswered, state-same, state-differs}
 use borrow.Author.Needs.{needs}
@@ -12,19 +11,19 @@ shared-slice-read-result : tie.Need-shared-slice-read-result
 shared-slice-read-result c = search needs
 
 returns : tie.Need-returns
-returns c = state-none (getD (c .before .before .before .before .args .place .now) 6 0) (getD (c .before .before .before .before .args .place .now) 7 0) (getD (c .before .before .before .before .args .place .now) 8 0) (getD (c .before .before .before .before .args .place .now) 9 0) (getD (c .before .before .before .before .args .place .now) 10 0) (getD (c .before .before .before .before .args .place .now) 11 0) (getD (c .before .before .before .before .args .place .now) 5 0) (c .before .if1 .taken)
+returns c = state-none (c .before .before .before .before .args .place .now) (c .before .if1 .taken)
 
 shared-slice-read-if2 : tie.Need-shared-slice-read-if2
 shared-slice-read-if2 c = search needs
 
 returns-2 : tie.Need-returns-2
-returns-2 c = state-asked (getD (c .before .before .before .before .before .args .place .now) 6 0) (getD (c .before .before .before .before .before .args .place .now) 7 0) (getD (c .before .before .before .before .before .args .place .now) 8 0) (getD (c .before .before .before .before .before .args .place .now) 9 0) (getD (c .before .before .before .before .before .args .place .now) 10 0) (getD (c .before .before .before .before .before .args .place .now) 11 0) (getD (c .before .before .before .before .before .args .place .now) 5 0) (c .before .before .if1 .left) (c .if2 .taken)
+returns-2 c = state-asked (c .before .before .before .before .before .args .place .now) (c .before .before .if1 .left) (c .if2 .taken)
 
 shared-slice-read-if3 : tie.Need-shared-slice-read-if3
 shared-slice-read-if3 c = search needs
 
 returns-3 : tie.Need-returns-3
-returns-3 c = state-unanswered (getD (c .before .before .before .before .before .before .before .args .place .now) 6 0) (getD (c .before .before .before .before .before .before .before .args .place .now) 7 0) (getD (c .before .before .before .before .before .before .before .args .place .now) 8 0) (getD (c .before .before .before .before .before .before .before .args .place .now) 9 0) (getD (c .before .before .before .before .before .before .before .args .place .now) 10 0) (getD (c .before .before .before .before .before .before .before .args .place .now) 11 0) (getD (c .before .before .before .before .before .before .before .args .place .now) 5 0) (c .before .before .before .before .if1 .left) (c .before .before .if2 .left) (c .if3 .taken)
+returns-3 c = state-unanswered (c .before .before .before .before .before .before .before .args .place .now) (c .before .before .before .before .if1 .left) (c .before .before .if2 .left) (c .if3 .taken)
 
 same-setups-requires : tie.Need-same-setups-requires
 same-setups-requires c κs = search needs

@@ -1,7 +1,7 @@
-use lib.ListN.{getD}
 use mathlib.Core.Path.{sym, _∙_, ap}
+use lib.ListN.{getD}
 use Rattle.rules.specs.WellFormed.{wiringFits}
-use Rattle.table.proofs.SoundnessRecord.{wiring-unjoined, wiring-joined, wiring-virtual}
+use Rattle.table.proofs.SoundnessRecord.{is-unjoined, is-joined, is-virtual}
 use Rattle.rules.specs.Table.{viewOfTable}
 use Rattle.rules.specs.Cells.{tableAt}
 use borrow.Author.Needs.{needs}
@@ -33,13 +33,13 @@ virtual-fits-requires : tie.Need-virtual-fits-requires
 virtual-fits-requires c κs = search needs
 
 returns : tie.Need-returns
-returns c = sym (ap (wiringFits (viewOfTable (tableAt (c .before .before .before .before .args .table .now))) (getD (c .before .before .before .before .args .place .now) 1 0)) (wiring-unjoined (getD (c .before .before .before .before .args .place .now) 0 0) (getD (c .before .before .before .before .args .place .now) 3 0) (getD (c .before .before .before .before .args .place .now) 4 0) (c .match .keys1)))
+returns c = sym (ap (wiringFits (viewOfTable (tableAt (c .before .before .before .before .args .table .now))) (getD (c .before .before .before .before .args .place .now) 1 0)) (is-unjoined (c .before .before .before .before .args .place .now) (c .match .keys1)))
 
 returns-2 : tie.Need-returns-2
-returns-2 c = c .joined-fits .ensures ∙ sym (ap (wiringFits (viewOfTable (tableAt (c .before .before .before .before .before .before .before .args .table .now))) (getD (c .before .before .before .before .before .before .before .args .place .now) 1 0)) (wiring-joined (getD (c .before .before .before .before .before .before .before .args .place .now) 0 0) (getD (c .before .before .before .before .before .before .before .args .place .now) 3 0) (getD (c .before .before .before .before .before .before .before .args .place .now) 4 0) (c .before .before .before .match .keys2)))
+returns-2 c = c .joined-fits .ensures ∙ sym (ap (wiringFits (viewOfTable (tableAt (c .before .before .before .before .before .before .before .args .table .now))) (getD (c .before .before .before .before .before .before .before .args .place .now) 1 0)) (is-joined (c .before .before .before .before .before .before .before .args .place .now) (c .before .before .before .match .keys2)))
 
 returns-3 : tie.Need-returns-3
-returns-3 c = c .virtual-fits .ensures ∙ sym (ap (wiringFits (viewOfTable (tableAt (c .before .before .before .before .before .before .before .before .args .table .now))) (getD (c .before .before .before .before .before .before .before .before .args .place .now) 1 0)) (wiring-virtual (getD (c .before .before .before .before .before .before .before .before .args .place .now) 0 0) (getD (c .before .before .before .before .before .before .before .before .args .place .now) 3 0) (getD (c .before .before .before .before .before .before .before .before .args .place .now) 4 0) (c .before .before .before .before .match .rest .0 .1) (c .before .before .before .before .match .rest .1)))
+returns-3 c = c .virtual-fits .ensures ∙ sym (ap (wiringFits (viewOfTable (tableAt (c .before .before .before .before .before .before .before .before .args .table .now))) (getD (c .before .before .before .before .before .before .before .before .args .place .now) 1 0)) (is-virtual (c .before .before .before .before .before .before .before .before .args .place .now) (c .before .before .before .before .match .rest .0 .1) (c .before .before .before .before .match .rest .1)))
 
 pub wiring-fits-spec : {M : Type 1} → statement M
 wiring-fits-spec =
