@@ -1,3 +1,10 @@
+pub mod Blocks
+pub mod Changes
+pub mod Lifts
 pub mod Numbers
 pub mod Places
+pub mod States
+pub mod Steps
 pub mod Stores
+pub mod Wirings
+pub mod Zeros
