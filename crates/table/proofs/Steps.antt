@@ -52,27 +52,30 @@ module _ (cells : List ℕ) (ok : sound cells ≡ true) where
 
   -- ---- attaching
 
-  pub attach-is : (port device place : ℕ) → place ≡ firstFree t → stored cells place (put 0 1 ∷ put 1 port ∷ put 2 device ∷ []) ≡ cellsOf (apply (attach port device) t)
+  pub attach-is : (port device place : ℕ) (out : List ℕ) → place ≡ firstFree t → out ≡ stored cells place (put 0 1 ∷ put 1 port ∷ put 2 device ∷ []) → out ≡ cellsOf (apply (attach port device) t)
   unfolding apply
-  attach-is port device place at =
-      (λ i. stored (is i) (at i) (put 0 1 ∷ put 1 port ∷ put 2 device ∷ []))
+  attach-is port device place out at new =
+      new ∙ (λ i. stored (is i) (at i) (put 0 1 ∷ put 1 port ∷ put 2 device ∷ []))
       ∙ insert-cells t (newRecord port device unjoined) (put 0 1 ∷ put 1 port ∷ put 2 device ∷ []) (omega arith, (omega arith, (omega arith, tt))) (attach-block port device)
 
   pub pair-known : (a b : ℕ) → goodPair (viewOfTable t) a b ≡ true → (known (viewOfTable t a) ≡ true) × (known (viewOfTable t b) ≡ true)
   pair-known a b good = let g = good-pair t a b good in (wired-known (viewOfTable t a) unjoined (g .one), wired-known (viewOfTable t b) unjoined (g .two))
 
-  pub attach-virtual-is : (port device a b place one two : ℕ) → goodPair (viewOfTable t) a b ≡ true → place ≡ firstFree t → one ≡ placeOf t a → two ≡ placeOf t b
-      → stored (stored (stored cells one (put 0 2 ∷ put 3 port ∷ [])) two (put 0 2 ∷ put 3 port ∷ [])) place (put 0 3 ∷ put 1 port ∷ put 2 device ∷ put 3 a ∷ put 4 b ∷ [])
-      ≡ cellsOf (apply (attachVirtual port device a b) t)
+  pub attach-virtual-is : (port device a b place one two : ℕ) (mid out : List ℕ) → goodPair (viewOfTable t) a b ≡ true → place ≡ firstFree t → one ≡ placeOf t a → two ≡ placeOf t b
+      → mid ≡ stored (stored cells one (put 0 2 ∷ put 3 port ∷ [])) two (put 0 2 ∷ put 3 port ∷ [])
+      → out ≡ stored mid place (put 0 3 ∷ put 1 port ∷ put 2 device ∷ put 3 a ∷ put 4 b ∷ [])
+      → out ≡ cellsOf (apply (attachVirtual port device a b) t)
   unfolding apply
-  attach-virtual-is port device a b place one two good at at-a at-b =
+  attach-virtual-is port device a b place one two mid out good at at-a at-b joining new =
       let g = good-pair t a b good in
       let u : Table = change a (wired (joined port)) t in
       let v : Table = change b (wired (joined port)) u in
-      let joins = pair-cells t a b (joined port) unjoined (formed .loose) (g .one) (g .two) (g .apart) refl in
+      let joins : mid ≡ cellsOf v =
+      joining ∙ (λ i. stored (stored (is i) (at-a i) (wiring-stores (joined port))) (at-b i) (wiring-stores (joined port)))
+      ∙ pair-cells t a b (joined port) unjoined (formed .loose) (g .one) (g .two) (g .apart) refl
+      in
       let free : firstFree t ≡ firstFree v = sym (free-change u b (wired (joined port)) ∙ free-change t a (wired (joined port))) in
-      (λ i. stored (stored (stored (is i) (at-a i) (wiring-stores (joined port))) (at-b i) (wiring-stores (joined port))) (at i) (put 0 3 ∷ put 1 port ∷ put 2 device ∷ put 3 a ∷ put 4 b ∷ []))
-      ∙ (λ i. stored (joins i) (free i) (put 0 3 ∷ put 1 port ∷ put 2 device ∷ put 3 a ∷ put 4 b ∷ []))
+      new ∙ (λ i. stored (joins i) ((at ∙ free) i) (put 0 3 ∷ put 1 port ∷ put 2 device ∷ put 3 a ∷ put 4 b ∷ []))
       ∙ insert-cells v (newRecord port device (virtual a b)) (put 0 3 ∷ put 1 port ∷ put 2 device ∷ put 3 a ∷ put 4 b ∷ [])
       (omega arith, (omega arith, (omega arith, (omega arith, (omega arith, tt))))) (virtual-block port device a b)
 
@@ -113,19 +116,19 @@ module _ (cells : List ℕ) (ok : sound cells ≡ true) where
         (λ i. stored (is i) (at i) (put (12 + mode) (formatCell (some new)) ∷ []))
         ∙ change-cells t port (withFormat mode new) f (put (12 + mode) (formatCell (some new)) ∷ []) (formed .loose .distinct) seen-as (omega arith, tt) (format-block itself mode new h)
 
-    pub ask-is : (s : Setup) → stored cells place (put 6 (s .mode + 1) ∷ put 7 (s .delta) ∷ put 8 (s .notify) ∷ put 5 1 ∷ []) ≡ cellsOf (apply (ask port s) t)
+    pub ask-is : (s : Setup) (out : List ℕ) → out ≡ stored cells place (put 6 (s .mode + 1) ∷ put 7 (s .delta) ∷ put 8 (s .notify) ∷ put 5 1 ∷ []) → out ≡ cellsOf (apply (ask port s) t)
     unfolding apply
-    ask-is s =
-        (λ i. stored (is i) (at i) (put 6 (s .mode + 1) ∷ put 7 (s .delta) ∷ put 8 (s .notify) ∷ put 5 1 ∷ []))
+    ask-is s out new =
+        new ∙ (λ i. stored (is i) (at i) (put 6 (s .mode + 1) ∷ put 7 (s .delta) ∷ put 8 (s .notify) ∷ put 5 1 ∷ []))
         ∙ change-cells t port (withAsk s) f (put 6 (s .mode + 1) ∷ put 7 (s .delta) ∷ put 8 (s .notify) ∷ put 5 1 ∷ []) (formed .loose .distinct) seen-as
         (omega arith, (omega arith, (omega arith, (omega arith, tt)))) (ask-block itself s)
 
-    pub answer-is : (s : Setup) (state : ℕ) → state ≡ answeredState (setupAt (getD cells (28 * place + 6) 0) (getD cells (28 * place + 7) 0) (getD cells (28 * place + 8) 0)) s
-        → stored cells place (put 9 (s .mode + 1) ∷ put 10 (s .delta) ∷ put 11 (s .notify) ∷ put 5 state ∷ []) ≡ cellsOf (apply (answer port s) t)
+    pub answer-is : (s : Setup) (state : ℕ) (out : List ℕ) → state ≡ answeredState (setupAt (getD cells (28 * place + 6) 0) (getD cells (28 * place + 7) 0) (getD cells (28 * place + 8) 0)) s
+        → out ≡ stored cells place (put 9 (s .mode + 1) ∷ put 10 (s .delta) ∷ put 11 (s .notify) ∷ put 5 state ∷ []) → out ≡ cellsOf (apply (answer port s) t)
     unfolding apply
-    answer-is s state e =
+    answer-is s state out e new =
         let now : state ≡ answeredState (f .asked) s = e ∙ ap (λ (x : Option Setup). answeredState x s) asked-is in
-        (λ i. stored (is i) (at i) (put 9 (s .mode + 1) ∷ put 10 (s .delta) ∷ put 11 (s .notify) ∷ put 5 (now i) ∷ []))
+        new ∙ (λ i. stored (is i) (at i) (put 9 (s .mode + 1) ∷ put 10 (s .delta) ∷ put 11 (s .notify) ∷ put 5 (now i) ∷ []))
         ∙ change-cells t port (withAnswer s) f (put 9 (s .mode + 1) ∷ put 10 (s .delta) ∷ put 11 (s .notify) ∷ put 5 (answeredState (f .asked) s) ∷ []) (formed .loose .distinct) seen-as
         (omega arith, (omega arith, (omega arith, (omega arith, tt)))) (answer-block itself s)
 
@@ -134,21 +137,21 @@ module _ (cells : List ℕ) (ok : sound cells ≡ true) where
     abbrev as-wired : (y : Wiring) → f .wiring ≡ y → wiredIn t port ≡ some y
     as-wired y e = ap wiring? seen-as ∙ ap some e
 
-    pub detach-unjoined : getD cells (28 * place) 0 ≡ 1 → zeroed cells (28 * place) 28 ≡ cellsOf (apply (detach port) t)
+    pub detach-unjoined : (out : List ℕ) → getD cells (28 * place) 0 ≡ 1 → out ≡ zeroed cells (28 * place) 28 → out ≡ cellsOf (apply (detach port) t)
     unfolding apply
-    detach-unjoined e =
+    detach-unjoined out e new =
         let w = as-wired unjoined (kind-unjoined (f .wiring) (sym kind-is ∙ e)) in
-        (λ i. zeroed (is i) (28 * at i) 28) ∙ remove-cells t port f (formed .loose .distinct) seen-as ∙ sym (ap (λ (y : Wiring). cellsOf (detachBy port y t)) (wired-as (viewOfTable t port) unjoined w))
+        new ∙ (λ i. zeroed (is i) (28 * at i) 28) ∙ remove-cells t port f (formed .loose .distinct) seen-as ∙ sym (ap (λ (y : Wiring). cellsOf (detachBy port y t)) (wired-as (viewOfTable t port) unjoined w))
 
     pub detach-pair : getD cells (28 * place) 0 ≡ 3 → isVirtual (wiredAs (viewOfTable t port)) ≡ true
     detach-pair e = ap (λ (x : Option Facts). isVirtual (wiredAs x)) seen-as ∙ kind-virtual (f .wiring) (sym kind-is ∙ e)
 
-    pub detach-virtual : isVirtual (wiredAs (viewOfTable t port)) ≡ true → cellsOf (dissolveBy port (wiredAs (viewOfTable t port)) t) ≡ cellsOf (apply (detach port) t)
+    pub detach-virtual : (out : List ℕ) → getD cells (28 * place) 0 ≡ 3 → out ≡ cellsOf (dissolveBy port (wiredAs (viewOfTable t port)) t) → out ≡ cellsOf (apply (detach port) t)
     unfolding apply
-    detach-virtual v = ap cellsOf (same (wiredAs (viewOfTable t port)) v)
+    detach-virtual out e new = new ∙ ap cellsOf (same (wiredAs (viewOfTable t port)) (detach-pair e))
       where
         same : (w : Wiring) → isVirtual w ≡ true → dissolveBy port w t ≡ detachBy port w t
-        same w e = ap (λ (y : Wiring). dissolveBy port y t) (virtual-is w e) ∙ sym (ap (λ (y : Wiring). detachBy port y t) (virtual-is w e))
+        same w v = ap (λ (y : Wiring). dissolveBy port y t) (virtual-is w v) ∙ sym (ap (λ (y : Wiring). detachBy port y t) (virtual-is w v))
 
     -- a virtual port's members
     module _ (v : isVirtual (wiredAs (viewOfTable t port)) ≡ true) where
@@ -170,10 +173,11 @@ module _ (cells : List ℕ) (ok : sound cells ≡ true) where
       pub second-known : known (viewOfTable t b) ≡ true
       second-known = wired-known (viewOfTable t b) (joined port) (formed .pairs .second port a b pair)
 
-      pub dissolve-is : (one two : ℕ) → one ≡ placeOf t a → two ≡ placeOf t b
-          → zeroed (stored (stored cells one (put 0 1 ∷ put 3 0 ∷ [])) two (put 0 1 ∷ put 3 0 ∷ [])) (28 * place) 28 ≡ cellsOf (dissolveBy port (wiredAs (viewOfTable t port)) t)
-      dissolve-is one two at-a at-b =
-          (λ i. zeroed (stored (stored (is i) (at-a i) (wiring-stores unjoined)) (at-b i) (wiring-stores unjoined)) (28 * at i) 28) ∙ dissolve-cells t port a b formed pair
+      pub dissolve-is : (one two : ℕ) (mid out : List ℕ) → one ≡ placeOf t a → two ≡ placeOf t b → mid ≡ stored (stored cells one (put 0 1 ∷ put 3 0 ∷ [])) two (put 0 1 ∷ put 3 0 ∷ [])
+          → out ≡ zeroed mid (28 * place) 28 → out ≡ cellsOf (dissolveBy port (wiredAs (viewOfTable t port)) t)
+      dissolve-is one two mid out at-a at-b freeing new =
+          new ∙ ap (λ (l : List ℕ). zeroed l (28 * place) 28) freeing
+          ∙ (λ i. zeroed (stored (stored (is i) (at-a i) (wiring-stores unjoined)) (at-b i) (wiring-stores unjoined)) (28 * at i) 28) ∙ dissolve-cells t port a b formed pair
           ∙ sym (ap (λ (y : Wiring). cellsOf (dissolveBy port y t)) (wired-as (viewOfTable t port) (virtual a b) pair))
 
     -- a member of a virtual port
@@ -218,13 +222,13 @@ module _ (cells : List ℕ) (ok : sound cells ≡ true) where
           ∙ place-change (change (named .a) (wired unjoined) t) (named .b) (wired unjoined) port
           ∙ place-change t (named .a) (wired unjoined) port
 
-      pub detach-joined : zeroed (cellsOf (dissolveBy v (wiredAs (viewOfTable t v)) t)) (28 * place) 28 ≡ cellsOf (apply (detach port) t)
+      pub detach-joined : (mid out : List ℕ) → mid ≡ cellsOf (dissolveBy v (wiredAs (viewOfTable t v)) t) → out ≡ zeroed mid (28 * place) 28 → out ≡ cellsOf (apply (detach port) t)
       unfolding apply
-      detach-joined =
+      detach-joined mid out dissolving new =
           let s = seen (viewOfTable rest port) unjoined still in
           let partner = wired-as (viewOfTable t v) its (named .pair) in
           let own = wired-as (viewOfTable t port) (joined v) joined-is in
-          (λ i. zeroed (cellsOf (dissolveBy v (partner i) t)) (28 * (at ∙ sym stays) i) 28)
+          new ∙ ap (λ (l : List ℕ). zeroed l (28 * place) 28) dissolving ∙ (λ i. zeroed (cellsOf (dissolveBy v (partner i) t)) (28 * (at ∙ sym stays) i) 28)
           ∙ remove-cells rest port (s .facts) (sound-dissolve t formed v (named .a) (named .b) (named .pair) .loose .distinct) (s .is)
           ∙ sym (ap (λ (y : Wiring). cellsOf (detachBy port y t)) own ∙ ap (λ (y : Wiring). cellsOf (remove port (dissolveBy v y t))) partner)
 
@@ -234,6 +238,6 @@ pub empty-is : (cells : List ℕ) → cellsOf (apply empty (tableAt cells)) ≡ 
 unfolding apply
 empty-is cells = ap cellsOf (freed-none (tableAt cells) ∙ ap (λ (n : ℕ). replicate n none) (sixteen cells)) ∙ sym empty-cells
 
-pub zeroed-all : (cells : List ℕ) → length cells ≡ 448 → zeroed cells 0 448 ≡ emptyCells
+pub clear-is : (cells out : List ℕ) → length cells ≡ 448 → out ≡ zeroed cells 0 448 → out ≡ emptyCells
 unfolding zeroed emptyCells
-zeroed-all cells e = ap (λ (l : List ℕ). replicate 448 0 ++ l) (drop-of-length-le cells {i = 448} (omega arith)) ∙ append-nil (replicate 448 0)
+clear-is cells out e new = new ∙ ap (λ (l : List ℕ). replicate 448 0 ++ l) (drop-of-length-le cells {i = 448} (omega arith)) ∙ append-nil (replicate 448 0)
