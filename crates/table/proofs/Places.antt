@@ -158,7 +158,7 @@ full-first (some r ∷ t) = full-first t ∙ eqb-suc (firstFree t) (length t)
         (λ (k : eqb a b ≡ false). let n = eqb-false a b k in k ∙ sym (ne-eqb (suc a) (suc b) (λ (e : suc a ≡ suc b). n (omega arith))))
         (which (eqb a b))
 
-sixteen : (cells : List ℕ) → length (tableAt cells) ≡ 16
+pub sixteen : (cells : List ℕ) → length (tableAt cells) ≡ 16
 unfolding tableAt
 sixteen cells = refl
 

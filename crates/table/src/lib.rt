@@ -4,4 +4,5 @@ mod judge;
 mod place;
 pub mod query;
 mod soundness;
+mod step;
 pub mod value;

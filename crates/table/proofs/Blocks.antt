@@ -1,0 +1,142 @@
+-- The cells of one record after each of its fields is replaced.
+use Prim.Native.Nat.{ℕ, zero, suc, _+_, _≤_, _<_}
+use native.Mathlib.Nat.{zero-add}
+use native.Mathlib.Numerals.{add-one}
+use native.Mathlib.Omega.{arith}
+use mathlib.Core.Path.{_≡_, refl, sym, _∙_, ap}
+use mathlib.Core.Bool.{Bool, cond}
+use mathlib.Core.List.{List, [], _∷_, _++_}
+use mathlib.Core.Option.{Option, none, some}
+use borrow.Author.Tests.{eq-eqb, ne-eqb}
+use lib.Dec.{eqb}
+use lib.ListN.{length, getD, set}
+use Rattle.protocol.specs.Form.{upFrom}
+use Rattle.rules.specs.Facts.{Setup, Format, Wiring, unjoined, virtual, Facts}
+use Rattle.rules.specs.Table.{Record, newRecord, wired, withFormat, answeredState, withAnswer, withAsk}
+use Rattle.rules.specs.Cells.{formatCell, setupCells, wiringCell, firstPartner, secondPartner, formatCells, modes, recordCells, placeCells, setupAt}
+use Rattle.table.specs.Step.{put}
+use Rattle.table.proofs.Stores.{storedIn, set-past}
+
+-- a record with other facts
+abbrev pub with-facts : Record → Facts → Record
+with-facts r f = record { port = r .port; facts = f }
+
+-- ---- wiring
+
+pub wiring-block : (r : Record) (y : Wiring) → secondPartner y ≡ secondPartner (r .facts .wiring)
+    → storedIn (recordCells r) (put 0 (wiringCell y) ∷ put 3 (firstPartner y) ∷ []) ≡ recordCells (with-facts r (wired y (r .facts)))
+unfolding recordCells
+wiring-block r y e =
+    let f : Facts = r .facts in
+    ap
+    (λ (n : ℕ). wiringCell y ∷ r .port ∷ f .device ∷ firstPartner y ∷ n ∷ f .state ∷ (setupCells (f .asked) ++ setupCells (f .answered) ++ formatCells (f .formats) modes))
+    (sym e)
+
+-- ---- a format
+
+same-cells : (n from : ℕ) (f g : ℕ → Option Format) → ((m : ℕ) → from ≤ m → f m ≡ g m) → formatCells f (upFrom from n) ≡ formatCells g (upFrom from n)
+same-cells zero from f g e = refl
+same-cells (suc n) from f g e =
+    let rest = same-cells n (suc from) f g (λ m h. e m (omega arith)) in
+    λ i. formatCell (e from (omega arith) i) ∷ rest i
+
+-- over the first mode and the number of modes
+formats-set : (n from k mode : ℕ) (formats : ℕ → Option Format) (new : Format) → mode ≡ from + k → k < n
+    → set (formatCells formats (upFrom from n)) k (formatCell (some new)) ≡ formatCells (λ m. cond (eqb mode m) (some new) (formats m)) (upFrom from n)
+formats-set zero from k mode formats new e h = absurd (omega arith)
+formats-set (suc n) from zero mode formats new e h =
+    let here : eqb mode from ≡ _ = eq-eqb mode from (omega arith) in
+    let later : (m : ℕ) → suc from ≤ m → formats m ≡ cond (eqb mode m) (some new) (formats m) =
+    λ m b. sym (ap (λ (x : Bool). cond x (some new) (formats m)) (ne-eqb mode m (λ (i : mode ≡ m). omega arith)))
+    in
+    let rest = same-cells n (suc from) formats (λ m. cond (eqb mode m) (some new) (formats m)) later in
+    λ i. formatCell (cond (sym here i) (some new) (formats from)) ∷ rest i
+formats-set (suc n) from (suc k) mode formats new e h =
+    let here : eqb mode from ≡ _ = ne-eqb mode from (λ (i : mode ≡ from). omega arith) in
+    let rest = formats-set n (suc from) k mode formats new (omega arith) (omega arith) in
+    λ i. formatCell (cond (sym here i) (some new) (formats from)) ∷ rest i
+
+setups-length : (asked answered : Option Setup) → length (setupCells asked ++ setupCells answered) ≡ 6
+setups-length none none = refl
+setups-length none (some s) = refl
+setups-length (some s) none = refl
+setups-length (some s) (some t) = refl
+
+pub format-block : (r : Record) (mode : ℕ) (new : Format) → mode ≤ 15
+    → storedIn (recordCells r) (put (12 + mode) (formatCell (some new)) ∷ []) ≡ recordCells (with-facts r (withFormat mode new (r .facts)))
+unfolding recordCells
+format-block r mode new h =
+    let f : Facts = r .facts in
+    let front : List ℕ = wiringCell (f .wiring) ∷ r .port ∷ f .device ∷ firstPartner (f .wiring) ∷ secondPartner (f .wiring) ∷ f .state ∷ (setupCells (f .asked) ++ setupCells (f .answered)) in
+    let twelve : length front ≡ 12 = ap (λ (n : ℕ). suc (suc (suc (suc (suc (suc n)))))) (setups-length (f .asked) (f .answered)) in
+    set-past front (formatCells (f .formats) modes) 12 mode (formatCell (some new)) twelve
+    ∙ ap (λ (l : List ℕ). front ++ l) (formats-set 16 0 mode mode (f .formats) new (sym (zero-add mode)) (omega arith))
+
+-- ---- setups
+
+ask-cells : (w port device a b state m d n : ℕ) (asked answered : Option Setup) (fs : List ℕ)
+    → storedIn (w ∷ port ∷ device ∷ a ∷ b ∷ state ∷ (setupCells asked ++ setupCells answered ++ fs)) (put 6 m ∷ put 7 d ∷ put 8 n ∷ put 5 1 ∷ [])
+    ≡ w ∷ port ∷ device ∷ a ∷ b ∷ 1 ∷ ((m ∷ d ∷ n ∷ []) ++ setupCells answered ++ fs)
+ask-cells w port device a b state m d n none answered fs = refl
+ask-cells w port device a b state m d n (some s) answered fs = refl
+
+pub ask-block : (r : Record) (s : Setup)
+    → storedIn (recordCells r) (put 6 (s .mode + 1) ∷ put 7 (s .delta) ∷ put 8 (s .notify) ∷ put 5 1 ∷ []) ≡ recordCells (with-facts r (withAsk s (r .facts)))
+unfolding recordCells
+ask-block r s =
+    let f : Facts = r .facts in
+    rw add-one
+    (ask-cells (wiringCell (f .wiring)) (r .port) (f .device) (firstPartner (f .wiring)) (secondPartner (f .wiring)) (f .state) (suc (s .mode)) (s .delta) (s .notify) (f .asked) (f .answered) (formatCells (f .formats) modes))
+
+answer-cells : (w port device a b state m d n new : ℕ) (asked answered : Option Setup) (fs : List ℕ)
+    → storedIn (w ∷ port ∷ device ∷ a ∷ b ∷ state ∷ (setupCells asked ++ setupCells answered ++ fs)) (put 9 m ∷ put 10 d ∷ put 11 n ∷ put 5 new ∷ [])
+    ≡ w ∷ port ∷ device ∷ a ∷ b ∷ new ∷ (setupCells asked ++ (m ∷ d ∷ n ∷ []) ++ fs)
+answer-cells w port device a b state m d n new none none fs = refl
+answer-cells w port device a b state m d n new none (some s) fs = refl
+answer-cells w port device a b state m d n new (some s) none fs = refl
+answer-cells w port device a b state m d n new (some s) (some t) fs = refl
+
+pub answer-block : (r : Record) (s : Setup)
+    → storedIn (recordCells r) (put 9 (s .mode + 1) ∷ put 10 (s .delta) ∷ put 11 (s .notify) ∷ put 5 (answeredState (r .facts .asked) s) ∷ []) ≡ recordCells (with-facts r (withAnswer s (r .facts)))
+unfolding recordCells
+answer-block r s =
+    let f : Facts = r .facts in
+    rw add-one
+    (answer-cells (wiringCell (f .wiring)) (r .port) (f .device) (firstPartner (f .wiring)) (secondPartner (f .wiring)) (f .state) (suc (s .mode)) (s .delta) (s .notify) (answeredState (f .asked) s) (f .asked) (f .answered) (formatCells (f .formats) modes))
+
+-- what was asked stands in cells 6, 7 and 8
+asked-cells : (w port device a b state : ℕ) (asked : Option Setup) (l fs : List ℕ)
+    → (let c : List ℕ = w ∷ port ∷ device ∷ a ∷ b ∷ state ∷ (setupCells asked ++ l ++ fs) in setupAt (getD c 6 0) (getD c 7 0) (getD c 8 0) ≡ asked)
+asked-cells w port device a b state none l fs = refl
+asked-cells w port device a b state (some s) l fs = refl
+
+pub asked-block : (r : Record) → setupAt (getD (recordCells r) 6 0) (getD (recordCells r) 7 0) (getD (recordCells r) 8 0) ≡ r .facts .asked
+unfolding recordCells
+asked-block r =
+    let f : Facts = r .facts in
+    asked-cells (wiringCell (f .wiring)) (r .port) (f .device) (firstPartner (f .wiring)) (secondPartner (f .wiring)) (f .state) (f .asked) (setupCells (f .answered)) (formatCells (f .formats) modes)
+
+-- ---- who a record is wired to
+
+pub kind-block : (r : Record) → getD (recordCells r) 0 0 ≡ wiringCell (r .facts .wiring)
+unfolding recordCells
+kind-block r = refl
+
+pub first-block : (r : Record) → getD (recordCells r) 3 0 ≡ firstPartner (r .facts .wiring)
+unfolding recordCells
+first-block r = refl
+
+pub second-block : (r : Record) → getD (recordCells r) 4 0 ≡ secondPartner (r .facts .wiring)
+unfolding recordCells
+second-block r = refl
+
+-- ---- a new record in a free place
+
+pub attach-block : (port device : ℕ) → storedIn (placeCells none) (put 0 1 ∷ put 1 port ∷ put 2 device ∷ []) ≡ placeCells (some (newRecord port device unjoined))
+unfolding recordCells
+attach-block port device = refl
+
+pub virtual-block : (port device a b : ℕ)
+    → storedIn (placeCells none) (put 0 3 ∷ put 1 port ∷ put 2 device ∷ put 3 a ∷ put 4 b ∷ []) ≡ placeCells (some (newRecord port device (virtual a b)))
+unfolding recordCells
+virtual-block port device a b = refl
