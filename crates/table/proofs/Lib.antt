@@ -3,6 +3,7 @@ pub mod Changes
 pub mod InOrder
 pub mod Lifts
 pub mod Numbers
+pub mod Offers
 pub mod Places
 pub mod Queries
 pub mod Records
@@ -12,6 +13,7 @@ pub mod SoundnessTable
 pub mod States
 pub mod Steps
 pub mod Stores
+pub mod Unsound
 pub mod Values
 pub mod Wirings
 pub mod Zeros

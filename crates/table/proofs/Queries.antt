@@ -5,20 +5,31 @@ use mathlib.Core.Path.{_≡_, refl, sym, _∙_, ap}
 use mathlib.Core.Bool.{true, _&&_, not}
 use mathlib.Core.List.{List}
 use mathlib.Core.Option.{Option, none, some}
-use borrow.Author.Tests.{leb-true, ltb-true}
+use borrow.Author.Tests.{ne-eqb, leb-true, ltb-true}
 use lib.Dec.{leb, ltb, eqb}
 use lib.ListN.{getD}
 use Rattle.protocol.proofs.Tests.{and-left, and-right}
 use Rattle.rules.specs.Facts.{Setup, Wiring, unjoined, joined, virtual, Facts, View}
 use Rattle.rules.specs.Table.{viewOfTable}
 use Rattle.rules.specs.WellFormed.{setupFits, isJoinedTo, isPairWith, wiringFits}
-use Rattle.rules.specs.Cells.{firstPartner, secondPartner, formatAt, setupAt, tableAt, sound}
+use Rattle.rules.specs.Cells.{firstPartner, secondPartner, formatAt, setupAt, wiringAt, tableAt, sound}
+use Rattle.rules.specs.Offer.{viewOfCells}
 use Rattle.rules.proofs.CellsRecord.{five-passed}
 use Rattle.rules.proofs.Laws.{table-sound}
 use Rattle.rules.proofs.Sound.{wiring?, wiring-fits}
 use Rattle.table.specs.Place.{factsAt, wiringHere}
-use Rattle.table.specs.Query.{present, portAnswer, formatIn}
+use Rattle.table.specs.Query.{present, portAnswer, portCells, formatIn, formatAnswer, formatCells}
 use Rattle.table.proofs.Records.{here, some-at, device-at, wiring-at, asked-at, answered-at, state-at, format-at, fit, passed}
+
+-- ---- a sound table is not refused
+
+pub port-sound : (cells : List ℕ) (port : ℕ) → sound cells ≡ true → portCells cells port ≡ portAnswer (viewOfCells cells port)
+unfolding portCells
+port-sound cells port s = rw s
+
+pub format-sound : (cells : List ℕ) (port mode : ℕ) → sound cells ≡ true → formatCells cells port mode ≡ formatAnswer (formatIn (viewOfCells cells port) mode)
+unfolding formatCells
+format-sound cells port mode s = rw s
 
 -- ---- a setup
 
@@ -52,6 +63,17 @@ small-setup (suc m) d n used e =
     let front = and-left (leb m 15 && ltb d 4294967296) (leb n 1) e in
     let k : m ≤ 15 = leb-true m 15 (and-left (leb m 15) (ltb d 4294967296) front) in
     record { mode = omega arith; notify = leb-true n 1 (and-right (leb m 15 && ltb d 4294967296) (leb n 1) e) }
+
+-- ---- a wiring
+
+pub wiring-unjoined : (kind a b : ℕ) → kind ≡ 1 → wiringAt kind a b ≡ unjoined
+wiring-unjoined kind a b e = ap (λ (k : ℕ). wiringAt k a b) e
+
+pub wiring-joined : (kind a b : ℕ) → kind ≡ 2 → wiringAt kind a b ≡ joined a
+wiring-joined kind a b e = ap (λ (k : ℕ). wiringAt k a b) e
+
+pub wiring-virtual : (kind a b : ℕ) → (kind ≡ 1 → ⊥) → (kind ≡ 2 → ⊥) → wiringAt kind a b ≡ virtual a b
+wiring-virtual kind a b one two = rw (ne-eqb kind 1 one, ne-eqb kind 2 two)
 
 -- ---- partners
 

@@ -22,6 +22,7 @@ use Rattle.rules.proofs.Laws.{table-sound}
 use Rattle.effects.specs.declared.Effect.{Effect}
 use Rattle.effects.specs.Told.{told}
 use Rattle.table.specs.Handed.{formatOf}
+use Rattle.table.specs.Judged.{judgedBy}
 use Rattle.table.specs.Place.{placeAtIndex, factsAt}
 use Rattle.table.proofs.Places.{cell, nowhere}
 
@@ -183,9 +184,6 @@ pub virtual-kind : (kind a b : ℕ) → (kind ≡ 1 → ⊥) → (kind ≡ 2 →
 virtual-kind kind a b one two = rw (ne-eqb kind 1 one, ne-eqb kind 2 two)
 
 -- ---- an effect's case, and what judging says of it
-
-abbrev pub judgedBy : List ℕ → Effect → ℕ → ℕ
-judgedBy cells e count = judge (viewOfTable (tableAt cells)) (modesOfTable (tableAt cells)) (fullTable (tableAt cells)) (told e) count
 
 pub by-case : (cells : List ℕ) (count n : ℕ) (e case : Effect) → e ≡ case → n ≡ judgedBy cells case count → n ≡ judgedBy cells e count
 by-case cells count n e case is k = k ∙ sym (ap (λ (x : Effect). judgedBy cells x count) is)

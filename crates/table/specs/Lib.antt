@@ -1,4 +1,6 @@
 pub mod Handed
+pub mod Judged
+pub mod Outcome
 pub mod Place
 pub mod Query
 pub mod Soundness

@@ -1,8 +1,93 @@
-// The port table of one hub, and values read by it.
+// The port table of one hub in 448 cells that the caller lends, and values read by it. Any other
+// slice of cells is refused with 9, and stays as it is.
 mod hand;
 mod judge;
+pub mod offering;
 mod place;
 pub mod query;
 mod soundness;
 mod step;
 pub mod value;
+
+use crate::hand::hand_sound;
+use crate::offering::Outcome;
+use crate::offering::offer_sound;
+use crate::query::Format;
+use crate::query::Port;
+use crate::query::format_of;
+use crate::query::port_of;
+use crate::soundness::is_sound;
+use crate::step::clear;
+use crate::value::Dataset;
+use protocol::Way;
+ghost use mathlib.Core.Path.{_≡_};
+ghost use Rattle.rules.specs.Offer.{cellsAfter, handCells, offerCells};
+ghost use Rattle.table.specs.Handed.{handedOf};
+ghost use Rattle.table.specs.Outcome.{emptied, emptyingSays, outcomeOf, saidBy};
+ghost use Rattle.table.specs.Query.{formatCells, formatSaid, portCells, portSaid};
+
+// Makes an empty table of 448 cells of any content.
+pub fn empty(table: &mut [u32]) -> Outcome
+    ensures { λ r. ⌜ (outcomeOf r ≡ emptyingSays (now (table .entry))) × (now (table .exit) ≡ emptied (now (table .entry))) ⌝ }
+{
+    if table.len() != 448 {
+        return Outcome::Refused {
+            number: 9,
+            place: 0,
+        };
+    }
+    clear(table);
+    Outcome::Accepted
+}
+
+// Offers a message to the table, which follows it where it is accepted.
+pub fn offer(table: &mut [u32], message: &[u8], way: Way) -> Outcome
+    ensures { λ r. ⌜ (outcomeOf r ≡ saidBy (offerCells (now (table .entry)) (record { way = way; bytes = now (message .entry) }))) × (now (table .exit) ≡ cellsAfter (now (table .entry)) (record { way = way; bytes = now (message .entry) })) ⌝ }
+{
+    if is_sound(table) {
+        return offer_sound(table, message, way);
+    }
+    Outcome::Refused {
+        number: 9,
+        place: 0,
+    }
+}
+
+// Hands out one dataset of a message, as the table stands.
+pub fn dataset(table: &[u32], message: &[u8], way: Way, number: usize) -> Dataset
+    ensures { λ r. ⌜ handedOf r ≡ handCells (now (table .entry)) (record { way = way; bytes = now (message .entry) }) number ⌝ }
+{
+    if is_sound(table) {
+        return hand_sound(table, message, way, number);
+    }
+    Dataset::Refused {
+        number: 9,
+        place: 0,
+    }
+}
+
+// What the table says of a port, its formats left out.
+pub fn port(table: &[u32], port: u8) -> Port
+    ensures { λ r. ⌜ portSaid r ≡ portCells (now (table .entry)) port ⌝ }
+{
+    if is_sound(table) {
+        return port_of(table, port);
+    }
+    Port::Refused {
+        number: 9,
+        place: 0,
+    }
+}
+
+// What the table says of the value format of a port's mode.
+pub fn format(table: &[u32], port: u8, mode: u8) -> Format
+    ensures { λ r. ⌜ formatSaid r ≡ formatCells (now (table .entry)) port mode ⌝ }
+{
+    if is_sound(table) {
+        return format_of(table, port, mode);
+    }
+    Format::Refused {
+        number: 9,
+        place: 0,
+    }
+}

@@ -1,14 +1,14 @@
 // What the table says of a port, and of a mode's format.
 use crate::place::find;
+ghost use Rattle.table.specs.Query.{formatCells, portCells};
 ghost use mathlib.Core.Path.{_≡_};
 ghost use mathlib.Core.Bool.{true};
 ghost use Prim.Native.Nat.{_+_, _<_};
 ghost use lib.ListN.{getD, length};
-ghost use Rattle.rules.specs.Table.{viewOfTable};
 ghost use Rattle.rules.specs.WellFormed.{setupFits};
-ghost use Rattle.rules.specs.Cells.{firstPartner, formatAt, secondPartner, setupAt, sound, tableAt};
+ghost use Rattle.rules.specs.Cells.{firstPartner, formatAt, secondPartner, setupAt, sound};
 ghost use Rattle.table.specs.Place.{wiringHere};
-ghost use Rattle.table.specs.Query.{formatAnswer, formatIn, formatSaid, portAnswer, portSaid, setupSaid, wiringSaid};
+ghost use Rattle.table.specs.Query.{formatAnswer, formatSaid, portSaid, setupSaid, wiringSaid};
 
 // An input format setup that was asked for or answered, or that none was.
 pub enum Setup {
@@ -90,7 +90,7 @@ fn wiring_at(table: &[u32], place: usize) -> Wiring
 // What a sound table says of a port.
 pub(crate) fn port_of(table: &[u32], port: u8) -> Port
     requires { ⌜ sound (now table) ≡ true ⌝ }
-    ensures { λ r. ⌜ portSaid r ≡ portAnswer (viewOfTable (tableAt (now (table .entry))) port) ⌝ }
+    ensures { λ r. ⌜ portSaid r ≡ portCells (now (table .entry)) port ⌝ }
 {
     let place = find(table, port as u32);
     if place == 16 {
@@ -126,7 +126,7 @@ fn format_in(cell: u32) -> Format
 // What a sound table says of a port's mode.
 pub(crate) fn format_of(table: &[u32], port: u8, mode: u8) -> Format
     requires { ⌜ sound (now table) ≡ true ⌝ }
-    ensures { λ r. ⌜ formatSaid r ≡ formatAnswer (formatIn (viewOfTable (tableAt (now (table .entry))) port) mode) ⌝ }
+    ensures { λ r. ⌜ formatSaid r ≡ formatCells (now (table .entry)) port mode ⌝ }
 {
     let place = find(table, port as u32);
     if place == 16 {

@@ -6,7 +6,7 @@ use Rattle.rules.proofs.CellsSound.{sound-length}
 use Rattle.table.specs.Place.{factsAt}
 use Rattle.table.specs.Query.{formatAnswer, formatIn}
 use Rattle.table.proofs.Places.{nowhere}
-use Rattle.table.proofs.Queries.{no-format, the-format}
+use Rattle.table.proofs.Queries.{format-sound, no-format, the-format}
 use borrow.Author.Needs.{needs}
 use Rattle.table.proofs.query.format_of.Statement.{statement}
 use Rattle.table.proofs.query.format_of.Tie as tie
@@ -15,10 +15,10 @@ find-requires : tie.Need-find-requires
 find-requires c κs = sound-length (c .before .args .table .now) (c .before .pre)
 
 returns : tie.Need-returns
-returns c = sym (ap (λ (x : Option Facts). formatAnswer (formatIn x (c .before .before .before .args .mode))) (c .before .find .ensures .1 ∙ ap (factsAt (c .before .before .before .args .table .now)) (c .if1 .taken) ∙ nowhere (c .before .before .before .args .table .now)))
+returns c = sym (ap (λ (x : Option Facts). formatAnswer (formatIn x (c .before .before .before .args .mode))) (c .before .find .ensures .1 ∙ ap (factsAt (c .before .before .before .args .table .now)) (c .if1 .taken) ∙ nowhere (c .before .before .before .args .table .now))) ∙ sym (format-sound (c .before .before .before .args .table .now) (c .before .before .before .args .port) (c .before .before .before .args .mode) (c .before .before .before .pre))
 
 returns-2 : tie.Need-returns-2
-returns-2 c = sym (ap formatAnswer (no-format (c .before .before .before .before .args .table .now) (c .before .before .find .result) (c .before .before .before .before .args .port) (c .before .before .before .before .pre) (omega (arith, c .before .before .find .ensures .0, c .before .if1 .left)) (c .before .before .find .ensures .1) (c .before .before .before .before .args .mode) (c .if2 .taken)))
+returns-2 c = sym (ap formatAnswer (no-format (c .before .before .before .before .args .table .now) (c .before .before .find .result) (c .before .before .before .before .args .port) (c .before .before .before .before .pre) (omega (arith, c .before .before .find .ensures .0, c .before .if1 .left)) (c .before .before .find .ensures .1) (c .before .before .before .before .args .mode) (c .if2 .taken))) ∙ sym (format-sound (c .before .before .before .before .args .table .now) (c .before .before .before .before .args .port) (c .before .before .before .before .args .mode) (c .before .before .before .before .pre))
 
 mul-format-in : tie.Need-mul-format-in
 mul-format-in c = search needs
@@ -39,7 +39,7 @@ format-in-requires : tie.Need-format-in-requires
 format-in-requires c κs = search needs
 
 returns-3 : tie.Need-returns-3
-returns-3 c = c .format-in .ensures ∙ sym (ap formatAnswer (the-format (c .before .before .before .before .before .before .args .table .now) (c .before .before .before .before .find .result) (c .before .before .before .before .before .before .args .port) (c .before .before .before .before .before .before .pre) (omega (arith, c .before .before .before .before .find .ensures .0, c .before .before .before .if1 .left)) (c .before .before .before .before .find .ensures .1) (c .before .before .before .before .before .before .args .mode) (c .before .before .if2 .left)))
+returns-3 c = c .format-in .ensures ∙ sym (ap formatAnswer (the-format (c .before .before .before .before .before .before .args .table .now) (c .before .before .before .before .find .result) (c .before .before .before .before .before .before .args .port) (c .before .before .before .before .before .before .pre) (omega (arith, c .before .before .before .before .find .ensures .0, c .before .before .before .if1 .left)) (c .before .before .before .before .find .ensures .1) (c .before .before .before .before .before .before .args .mode) (c .before .before .if2 .left))) ∙ sym (format-sound (c .before .before .before .before .before .before .args .table .now) (c .before .before .before .before .before .before .args .port) (c .before .before .before .before .before .before .args .mode) (c .before .before .before .before .before .before .pre))
 
 pub format-of-spec : {M : Type 1} → statement M
 format-of-spec =

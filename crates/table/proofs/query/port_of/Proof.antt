@@ -4,7 +4,7 @@ use Rattle.rules.proofs.CellsSound.{sound-length}
 use Rattle.table.specs.Place.{factsAt}
 use Rattle.table.specs.Query.{portAnswer}
 use Rattle.table.proofs.Places.{nowhere}
-use Rattle.table.proofs.Queries.{partners-small, answered-fits, asked-fits, port-at}
+use Rattle.table.proofs.Queries.{port-sound, partners-small, answered-fits, asked-fits, port-at}
 use Rattle.table.proofs.Records.{device-small}
 use Rattle.table.proofs.Values.{state-small}
 use borrow.Author.Needs.{needs}
@@ -15,7 +15,7 @@ find-requires : tie.Need-find-requires
 find-requires c κs = sound-length (c .before .args .table .now) (c .before .pre)
 
 returns : tie.Need-returns
-returns c = sym (ap portAnswer (c .before .find .ensures .1 ∙ ap (factsAt (c .before .before .before .args .table .now)) (c .if1 .taken) ∙ nowhere (c .before .before .before .args .table .now)))
+returns c = sym (ap portAnswer (c .before .find .ensures .1 ∙ ap (factsAt (c .before .before .before .args .table .now)) (c .if1 .taken) ∙ nowhere (c .before .before .before .args .table .now))) ∙ sym (port-sound (c .before .before .before .args .table .now) (c .before .before .before .args .port) (c .before .before .before .pre))
 
 wiring-at-requires : tie.Need-wiring-at-requires
 wiring-at-requires c κs = (sound-length (c .before .before .before .args .table .now) (c .before .before .before .pre), (omega (arith, c .before .find .ensures .0, c .if1 .left)), partners-small (c .before .before .before .args .table .now) (c .before .find .result) (c .before .before .before .args .port) (c .before .before .before .pre) (omega (arith, c .before .find .ensures .0, c .if1 .left)) (c .before .find .ensures .1) .first, partners-small (c .before .before .before .args .table .now) (c .before .find .result) (c .before .before .before .args .port) (c .before .before .before .pre) (omega (arith, c .before .find .ensures .0, c .if1 .left)) (c .before .find .ensures .1) .second)
@@ -69,7 +69,7 @@ cast-t19 : tie.Need-cast-t19
 cast-t19 c = record { fits = omega (arith, state-small (c .before .before .before .before .before .before .before .before .args .table .now) (c .before .before .before .before .before .before .find .result) (c .before .before .before .before .before .before .before .before .args .port) (c .before .before .before .before .before .before .before .before .pre) (omega (arith, c .before .before .before .before .before .before .find .ensures .0, c .before .before .before .before .before .if1 .left)) (c .before .before .before .before .before .before .find .ensures .1)) }
 
 returns-2 : tie.Need-returns-2
-returns-2 c = port-at (c .before .before .before .before .before .before .before .before .args .table .now) (c .before .before .before .before .before .before .find .result) (c .before .before .before .before .before .before .before .before .args .port) (c .before .before .before .before .before .before .before .before .pre) (omega (arith, c .before .before .before .before .before .before .find .ensures .0, c .before .before .before .before .before .if1 .left)) (c .before .before .before .before .before .before .find .ensures .1) _ _ _ _ _ refl (c .before .before .before .before .wiring-at .ensures) (c .before .before .before .setup-at .ensures) (c .before .before .setup-at2 .ensures) refl
+returns-2 c = port-at (c .before .before .before .before .before .before .before .before .args .table .now) (c .before .before .before .before .before .before .find .result) (c .before .before .before .before .before .before .before .before .args .port) (c .before .before .before .before .before .before .before .before .pre) (omega (arith, c .before .before .before .before .before .before .find .ensures .0, c .before .before .before .before .before .if1 .left)) (c .before .before .before .before .before .before .find .ensures .1) _ _ _ _ _ refl (c .before .before .before .before .wiring-at .ensures) (c .before .before .before .setup-at .ensures) (c .before .before .setup-at2 .ensures) refl ∙ sym (port-sound (c .before .before .before .before .before .before .before .before .args .table .now) (c .before .before .before .before .before .before .before .before .args .port) (c .before .before .before .before .before .before .before .before .pre))
 
 pub port-of-spec : {M : Type 1} → statement M
 port-of-spec =

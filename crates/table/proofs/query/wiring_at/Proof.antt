@@ -4,7 +4,7 @@ use mathlib.Core.Path.{sym, subst}
 use lib.ListN.{getD}
 use Rattle.rules.specs.Facts.{Wiring}
 use Rattle.rules.specs.Cells.{firstPartner, secondPartner}
-use Rattle.table.proofs.SoundnessRecord.{wiring-unjoined, wiring-joined, wiring-virtual}
+use Rattle.table.proofs.Queries.{wiring-unjoined, wiring-joined, wiring-virtual}
 use borrow.Author.Needs.{needs}
 use Rattle.table.proofs.query.wiring_at.Statement.{statement}
 use Rattle.table.proofs.query.wiring_at.Tie as tie

@@ -1,0 +1,20 @@
+use mathlib.Core.Path.{sym, _∙_}
+use Rattle.table.proofs.Unsound.{format-9}
+use borrow.Author.Needs.{needs}
+use Rattle.table.proofs.format.Statement.{statement}
+use Rattle.table.proofs.format.Tie as tie
+
+is-sound-requires : tie.Need-is-sound-requires
+is-sound-requires c κs = search needs
+
+format-of-requires : tie.Need-format-of-requires
+format-of-requires c κs = sym (c .before .is-sound .ensures) ∙ c .if1 .taken
+
+returns : tie.Need-returns
+returns c = search needs
+
+returns-2 : tie.Need-returns-2
+returns-2 c = sym (format-9 (c .before .before .before .args .table .now) (sym (c .before .is-sound .ensures) ∙ c .if1 .left) (c .before .before .before .args .port) (c .before .before .before .args .mode))
+
+pub format-spec : {M : Type 1} → statement M
+format-spec = tie.close (tie.spec is-sound-requires format-of-requires returns returns-2)

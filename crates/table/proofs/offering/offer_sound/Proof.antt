@@ -1,0 +1,50 @@
+use Prim.Native.Nat.{ℕ}
+use native.Mathlib.Omega.{arith}
+use mathlib.Core.Path.{sym, _∙_, ap}
+use Rattle.protocol.specs.Answer.{answerOf}
+use Rattle.table.specs.Outcome.{saidBy}
+use Rattle.table.proofs.Offers.{offered-message, offered-unread, cells-by, fits-by, all-bytes}
+use borrow.Author.Needs.{needs}
+use Rattle.table.proofs.offering.offer_sound.Statement.{statement}
+use Rattle.table.proofs.offering.offer_sound.Tie as tie
+
+read-requires : tie.Need-read-requires
+read-requires c κs = search needs
+
+enum-known-m : tie.Need-enum-known-m
+enum-known-m c = search needs
+
+effect-of-requires : tie.Need-effect-of-requires
+effect-of-requires c κs = search needs
+
+tail-requires : tie.Need-tail-requires
+tail-requires c κs = search needs
+
+offer-effect-requires : tie.Need-offer-effect-requires
+offer-effect-requires c κs = (c .before .before .before .before .before .before .before .before .before .pre, fits-by (c .before .before .before .before .before .before .before .before .before .args .message .now) (c .before .before .before .before .before .before .before .before .before .args .way) _ (c .before .effect-of .result) (all-bytes (c .before .before .before .before .before .before .before .before .before .args .message .now) (λ (k : ℕ). omega (arith, c .before .before .before .before .before .before .before .shared-slice-known .given k))) (sym (c .before .before .before .before .before .before .read .ensures) ∙ ap answerOf (c .before .before .before .before .m .given .1)) (c .before .effect-of .ensures))
+
+enum-known-number : tie.Need-enum-known-number
+enum-known-number c = search needs
+
+same-length : tie.Need-same-length
+same-length c = search needs
+
+returns : tie.Need-returns
+returns c = (c .before .before .offer-effect .ensures .0 ∙ sym (ap saidBy (offered-message (c .before .before .before .before .before .before .before .before .before .before .before .before .args .table .now) (c .before .before .before .before .before .before .before .before .before .before .before .before .args .message .now) (c .before .before .before .before .before .before .before .before .before .before .before .before .args .way) (c .before .before .before .before .before .before .before .before .before .before .before .before .pre) _ (c .before .before .before .before .effect-of .result) _ (sym (c .before .before .before .before .before .before .before .before .before .read .ensures) ∙ ap answerOf (c .before .before .before .before .before .before .before .m .given .1)) (c .before .before .before .before .effect-of .ensures) (c .before .before .before .tail .ensures))), c .before .before .offer-effect .ensures .1 ∙ sym (cells-by (c .before .before .before .before .before .before .before .before .before .before .before .before .args .table .now) (c .before .before .before .before .before .before .before .before .before .before .before .before .args .message .now) (c .before .before .before .before .before .before .before .before .before .before .before .before .args .way) (c .before .before .before .before .before .before .before .before .before .before .before .before .pre) _ (offered-message (c .before .before .before .before .before .before .before .before .before .before .before .before .args .table .now) (c .before .before .before .before .before .before .before .before .before .before .before .before .args .message .now) (c .before .before .before .before .before .before .before .before .before .before .before .before .args .way) (c .before .before .before .before .before .before .before .before .before .before .before .before .pre) _ (c .before .before .before .before .effect-of .result) _ (sym (c .before .before .before .before .before .before .before .before .before .read .ensures) ∙ ap answerOf (c .before .before .before .before .before .before .before .m .given .1)) (c .before .before .before .before .effect-of .ensures) (c .before .before .before .tail .ensures))))
+
+returns-2 : tie.Need-returns-2
+returns-2 c = (sym (ap saidBy (offered-unread (c .before .before .before .before .before .before .args .table .now) (c .before .before .before .before .before .before .args .message .now) (c .before .before .before .before .before .before .args .way) (c .before .before .before .before .before .before .pre) _ _ (sym (c .before .before .before .read .ensures) ∙ ap answerOf (c .before .number .given .1)))), sym (cells-by (c .before .before .before .before .before .before .args .table .now) (c .before .before .before .before .before .before .args .message .now) (c .before .before .before .before .before .before .args .way) (c .before .before .before .before .before .before .pre) _ (offered-unread (c .before .before .before .before .before .before .args .table .now) (c .before .before .before .before .before .before .args .message .now) (c .before .before .before .before .before .before .args .way) (c .before .before .before .before .before .before .pre) _ _ (sym (c .before .before .before .read .ensures) ∙ ap answerOf (c .before .number .given .1)))))
+
+pub offer-sound-spec : {M : Type 1} → statement M
+offer-sound-spec =
+    tie.close
+    (tie.spec
+    read-requires
+    enum-known-m
+    effect-of-requires
+    tail-requires
+    offer-effect-requires
+    enum-known-number
+    same-length
+    returns
+    returns-2)
