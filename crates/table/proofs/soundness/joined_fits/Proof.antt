@@ -16,7 +16,8 @@ is-pair-with-requires : tie.Need-is-pair-with-requires
 is-pair-with-requires c κs = search needs
 
 returns-2 : tie.Need-returns-2
-returns-2 c = let names-it : c .is-pair-with .result ≡ isPairWith (c .before .before .before .args .port) (viewOfTable (tableAt (c .before .before .before .args .table .now)) (c .before .before .before .args .pair)) = c .is-pair-with .ensures in
+returns-2 c =
+    let names-it : c .is-pair-with .result ≡ isPairWith (c .before .before .before .args .port) (viewOfTable (tableAt (c .before .before .before .args .table .now)) (c .before .before .before .args .pair)) = c .is-pair-with .ensures in
     joined-by (viewOfTable (tableAt (c .before .before .before .args .table .now))) (c .before .before .before .args .port) (c .before .before .before .args .pair) (passes (lt-ltb _ _ (c .before .if1 .left)) (ends names-it))
 
 pub joined-fits-spec : {M : Type 1} → statement M

@@ -30,7 +30,8 @@ is-joined-to-requires-2 : tie.Need-is-joined-to-requires-2
 is-joined-to-requires-2 c κs = search needs
 
 returns-5 : tie.Need-returns-5
-returns-5 c = let second-joined : c .is-joined-to2 .result ≡ isJoinedTo (c .before .before .before .before .before .before .before .args .port) (viewOfTable (tableAt (c .before .before .before .before .before .before .before .args .table .now)) (c .before .before .before .before .before .before .before .args .second)) = c .is-joined-to2 .ensures in
+returns-5 c =
+    let second-joined : c .is-joined-to2 .result ≡ isJoinedTo (c .before .before .before .before .before .before .before .args .port) (viewOfTable (tableAt (c .before .before .before .before .before .before .before .args .table .now)) (c .before .before .before .before .before .before .before .args .second)) = c .is-joined-to2 .ensures in
     virtual-by (viewOfTable (tableAt (c .before .before .before .before .before .before .before .args .table .now))) (c .before .before .before .before .before .before .before .args .port) (c .before .before .before .before .before .before .before .args .first) (c .before .before .before .before .before .before .before .args .second) (passes (lt-ltb _ _ (c .before .before .before .before .before .if1 .left)) (passes (lt-ltb _ _ (c .before .before .before .before .if2 .left)) (passes (ap not (ne-eqb _ _ (c .before .before .before .if3 .left))) (passes (held (c .before .before .is-joined-to .ensures) (c .before .if4 .left)) (ends second-joined)))))
 
 pub virtual-fits-spec : {M : Type 1} → statement M
