@@ -1,6 +1,6 @@
-pub mod InOrder
 pub mod Numbers
 pub mod Places
 pub mod SoundnessExact
 pub mod SoundnessRecord
 pub mod SoundnessTable
+pub mod SoundnessTests

@@ -19,7 +19,7 @@ use Rattle.rules.proofs.CellsRecord.{place-length}
 use Rattle.rules.proofs.CellsSound.{sound-is}
 use Rattle.table.specs.Place.{placeAtIndex, factsAt}
 use Rattle.table.specs.Soundness.{formatsInFit, emptyPlace, exactRecord, placeHas, placesAfter, placeFits, soundPlace}
-use Rattle.table.proofs.InOrder.{Tested, tested}
+use Rattle.table.proofs.SoundnessTests.{Tested, tested}
 use Rattle.table.proofs.Places.{fromPlace, next, none-left}
 use Rattle.table.proofs.SoundnessExact.{same-append}
 

@@ -1,7 +1,7 @@
 use Prim.Native.Nat.{_%_}
 use native.Mathlib.Omega.{arith}
 use borrow.Author.Tests.{le-leb, lt-leb}
-use Rattle.table.proofs.InOrder.{stops, passes, ends}
+use Rattle.table.proofs.SoundnessTests.{stops, passes, ends}
 use Rattle.table.proofs.SoundnessRecord.{format-by}
 use mathlib.Core.Path.{refl}
 use borrow.Author.Needs.{needs}

@@ -2,7 +2,7 @@ use Prim.Native.Nat.{_≤_}
 use native.Mathlib.Omega.{arith}
 use mathlib.Core.Path.{_≡_, sym, _∙_}
 use Rattle.table.specs.Soundness.{formatsInFit}
-use Rattle.table.proofs.InOrder.{missed, held}
+use Rattle.table.proofs.SoundnessTests.{missed, held}
 use Rattle.table.proofs.SoundnessTable.{formatsBelow, formats-start, formats-stops, formats-passes, formats-none}
 use Rattle.table.proofs.soundness.formats_fit.Statement.{statement}
 use Rattle.table.proofs.soundness.formats_fit.Tie as tie

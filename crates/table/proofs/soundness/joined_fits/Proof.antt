@@ -1,7 +1,7 @@
 use mathlib.Core.Path.{_≡_}
 use borrow.Author.Tests.{lt-ltb, le-ltb}
 use Rattle.rules.specs.WellFormed.{isPairWith}
-use Rattle.table.proofs.InOrder.{stops, passes, ends}
+use Rattle.table.proofs.SoundnessTests.{stops, passes, ends}
 use Rattle.table.proofs.SoundnessRecord.{joined-by}
 use Rattle.rules.specs.Table.{viewOfTable}
 use Rattle.rules.specs.Cells.{tableAt}

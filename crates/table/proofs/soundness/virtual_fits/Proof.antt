@@ -3,7 +3,7 @@ use mathlib.Core.Path.{_≡_, ap}
 use mathlib.Core.Bool.{not}
 use Rattle.rules.specs.WellFormed.{isJoinedTo}
 use borrow.Author.Tests.{lt-ltb, le-ltb, eq-eqb, ne-eqb}
-use Rattle.table.proofs.InOrder.{stops, passes, ends, missed, held}
+use Rattle.table.proofs.SoundnessTests.{stops, passes, ends, missed, held}
 use Rattle.table.proofs.SoundnessRecord.{virtual-by}
 use Rattle.rules.specs.Table.{viewOfTable}
 use Rattle.rules.specs.Cells.{tableAt}
