@@ -10,6 +10,7 @@ pub mod Records
 pub mod SoundnessExact
 pub mod SoundnessRecord
 pub mod SoundnessTable
+pub mod SoundnessTests
 pub mod States
 pub mod Steps
 pub mod Stores

@@ -15,7 +15,7 @@ use Rattle.rules.specs.Facts.{Setup, Wiring}
 use Rattle.rules.specs.Cells.{formatCell, setupCells, wiringCell, firstPartner, secondPartner, formatCells, modes, recordCells, formatAt, recordAt, sameCells}
 use Rattle.rules.proofs.CellsSound.{same-refl}
 use Rattle.table.specs.Soundness.{setupIn, wiringIn, exactSetup, exactAs, exactWiring, exactRecord}
-use Rattle.table.proofs.InOrder.{Tested, tested}
+use Rattle.table.proofs.SoundnessTests.{Tested, tested}
 
 pub same-append : (a b c d : List ℕ) → length a ≡ length b → sameCells (a ++ c) (b ++ d) ≡ (sameCells a b && sameCells c d)
 same-append [] [] c d e = refl

@@ -14,7 +14,7 @@ use Rattle.rules.specs.WellFormed.{setupFits, formatFits, stateFits, joinedTo, 
 use Rattle.rules.specs.Cells.{setupCells, formatAt, setupAt, wiringAt, recordAt, sameCells}
 use Rattle.rules.proofs.CellsSound.{same-refl}
 use Rattle.table.specs.Soundness.{setupIn, wiringIn, exactSetup, exactAs, exactWiring, formatsInFit, sameSetups, stateInFits}
-use Rattle.table.proofs.InOrder.{Tested, tested}
+use Rattle.table.proofs.SoundnessTests.{Tested, tested}
 
 -- ---- a setup
 

@@ -13,13 +13,13 @@ use lib.Seq.{getD-take, getD-drop, drop-cons, drop-drop, length-take-le}
 use Rattle.protocol.proofs.Tests.{which}
 use Rattle.rules.specs.Facts.{Facts, View, known}
 use Rattle.rules.specs.Table.{Record, Table, viewOfTable}
-use Rattle.rules.specs.WellFormed.{formatFits, formatsFit, isJoinedTo, joinedTo, isPairWith, pairWith, recordFits, placesFit, wellFormed}
+use Rattle.rules.specs.WellFormed.{formatFits, formatsFit, recordFits, placesFit, wellFormed}
 use Rattle.rules.specs.Cells.{placeCells, cellsOf, formatAt, recordAt, placeAt, tableAt, sameCells, sound}
 use Rattle.rules.proofs.CellsRecord.{place-length}
 use Rattle.rules.proofs.CellsSound.{sound-is}
 use Rattle.table.specs.Place.{placeAtIndex, factsAt}
-use Rattle.table.specs.Soundness.{wiringIn, formatsInFit, emptyPlace, exactRecord, placeHas, placesAfter, placeFits, soundPlace}
-use Rattle.table.proofs.InOrder.{Tested, tested}
+use Rattle.table.specs.Soundness.{formatsInFit, emptyPlace, exactRecord, placeHas, placesAfter, placeFits, soundPlace}
+use Rattle.table.proofs.SoundnessTests.{Tested, tested}
 use Rattle.table.proofs.Places.{fromPlace, next, none-left}
 use Rattle.table.proofs.SoundnessExact.{same-append}
 
@@ -28,26 +28,14 @@ use Rattle.table.proofs.SoundnessExact.{same-append}
 pub place-size : (cells : List ℕ) (i : ℕ) → length cells ≡ 448 → i < 16 → length (placeAtIndex cells i) ≡ 28
 place-size cells i size h = length-take-le 28 (drop (28 * i) cells) (rw length-drop (omega arith))
 
--- the facts of a record that stands at an index
-facts-there : (cells : List ℕ) (i : ℕ) → i < 16 → factsAt cells i ≡ some (recordAt (placeAtIndex cells i) .facts)
+-- the facts of a port that was looked for, by its place
+pub found-at : (cells place : List ℕ) (i : ℕ) (x : Option Facts) → x ≡ factsAt cells i → i < 16 → place ≡ placeAtIndex cells i → x ≡ some (recordAt place .facts)
 unfolding factsAt
-facts-there cells i h = ap (λ (b : Bool). cond b (some (recordAt (placeAtIndex cells i) .facts)) none) (lt-ltb i 16 h)
+found-at cells place i x e h is = e ∙ ap (λ (b : Bool). cond b (some (recordAt (placeAtIndex cells i) .facts)) none) (lt-ltb i 16 h) ∙ ap (λ (l : List ℕ). some (recordAt l .facts)) (sym is)
 
-facts-nowhere : (cells : List ℕ) (i : ℕ) → 16 ≤ i → factsAt cells i ≡ none
+pub not-found : (cells : List ℕ) (i : ℕ) (x : Option Facts) → x ≡ factsAt cells i → 16 ≤ i → x ≡ none
 unfolding factsAt
-facts-nowhere cells i h = ap (λ (b : Bool). cond b (some (recordAt (placeAtIndex cells i) .facts)) none) (le-ltb i 16 h)
-
--- the wiring of a port that was looked for, by its place
-pub pair-there : (cells place : List ℕ) (i member : ℕ) (x : Option Facts) → x ≡ factsAt cells i → i < 16 → place ≡ placeAtIndex cells i → pairWith member (wiringIn place) ≡ isPairWith member x
-unfolding recordAt
-pair-there cells place i member x e h is = sym (ap (isPairWith member) (e ∙ facts-there cells i h ∙ ap (λ (l : List ℕ). some (recordAt l .facts)) (sym is)))
-
-pub joined-there : (cells place : List ℕ) (i v : ℕ) (x : Option Facts) → x ≡ factsAt cells i → i < 16 → place ≡ placeAtIndex cells i → joinedTo v (wiringIn place) ≡ isJoinedTo v x
-unfolding recordAt
-joined-there cells place i v x e h is = sym (ap (isJoinedTo v) (e ∙ facts-there cells i h ∙ ap (λ (l : List ℕ). some (recordAt l .facts)) (sym is)))
-
-pub no-port : (cells : List ℕ) (i : ℕ) (x : Option Facts) → x ≡ factsAt cells i → 16 ≤ i → x ≡ none
-no-port cells i x e h = e ∙ facts-nowhere cells i h
+not-found cells i x e h = e ∙ ap (λ (b : Bool). cond b (some (recordAt (placeAtIndex cells i) .facts)) none) (le-ltb i 16 h)
 
 -- whether it has a port's record
 pub free-has : (place : List ℕ) (port : ℕ) → getD place 0 0 ≡ 0 → false ≡ placeHas port (placeAt place)
@@ -102,11 +90,11 @@ formats-next place (suc m) h k =
     let last : suc m - 1 ≡ m = omega arith in
     rw last (ap (λ (n : ℕ). formatFits (formatAt n) && formatsFit m (recordAt place .facts .formats)) (getD-take 16 (drop 12 place) m 0 (omega arith) ∙ getD-drop 12 place m 0))
 
-pub formats-stop : (place : List ℕ) (m : ℕ) → m ≤ 16 → 0 < m → formatFits (formatAt (getD place (12 + (m - 1)) 0)) ≡ false → formatsBelow place m ≡ false
-formats-stop place m h k e = formats-next place m h k ∙ ap (λ (b : Bool). b && formatsBelow place (m - 1)) e
+pub formats-stops : (place : List ℕ) (m : ℕ) → m ≤ 16 → 0 < m → formatFits (formatAt (getD place (12 + (m - 1)) 0)) ≡ false → formatsBelow place m ≡ false
+formats-stops place m h k e = formats-next place m h k ∙ ap (λ (b : Bool). b && formatsBelow place (m - 1)) e
 
-pub formats-pass : (place : List ℕ) (m : ℕ) → m ≤ 16 → 0 < m → formatFits (formatAt (getD place (12 + (m - 1)) 0)) ≡ true → formatsBelow place m ≡ formatsBelow place (m - 1)
-formats-pass place m h k e = formats-next place m h k ∙ ap (λ (b : Bool). b && formatsBelow place (m - 1)) e
+pub formats-passes : (place : List ℕ) (m : ℕ) → m ≤ 16 → 0 < m → formatFits (formatAt (getD place (12 + (m - 1)) 0)) ≡ true → formatsBelow place m ≡ formatsBelow place (m - 1)
+formats-passes place m h k e = formats-next place m h k ∙ ap (λ (b : Bool). b && formatsBelow place (m - 1)) e
 
 pub formats-none : (place : List ℕ) (m : ℕ) → m ≤ 0 → formatsBelow place m ≡ true
 formats-none place m h = let zero-left : m ≡ 0 = omega arith in ap (formatsBelow place) zero-left
@@ -169,17 +157,17 @@ sound-next : (cells : List ℕ) (i : ℕ) → length cells ≡ 448 → i < 16 �
 unfolding soundPlace cellsOf
 sound-next cells i size h =
     let view : View = viewOfTable (tableAt cells) in
-    let c : List ℕ = placeAtIndex cells i in
-    let p : Option Record = placeAt c in
+    let place : List ℕ = placeAtIndex cells i in
+    let p : Option Record = placeAt place in
     let rest : List ℕ = drop (28 * (i + 1)) cells in
     let later : Table = fromPlace cells (i + 1) in
-    let place : 28 * i + 28 ≡ 28 * (i + 1) = omega arith in
-    let cut : drop (28 * i) cells ≡ c ++ rest = sym (take-append-drop 28 (drop (28 * i) cells)) ∙ ap (λ (l : List ℕ). c ++ l) (drop-drop 28 (28 * i) cells ∙ ap (λ (n : ℕ). drop n cells) place) in
+    let width : 28 * i + 28 ≡ 28 * (i + 1) = omega arith in
+    let cut : drop (28 * i) cells ≡ place ++ rest = sym (take-append-drop 28 (drop (28 * i) cells)) ∙ ap (λ (l : List ℕ). place ++ l) (drop-drop 28 (28 * i) cells ∙ ap (λ (n : ℕ). drop n cells) width) in
     ap (λ (l : List ℕ). sameCells l (cellsOf (fromPlace cells i)) && placesFit view (fromPlace cells i)) cut
-    ∙ ap (λ (t : Table). sameCells (c ++ rest) (cellsOf t) && placesFit view t) (next cells i h)
-    ∙ ap (λ (b : Bool). b && placesFit view (p ∷ later)) (same-append c (placeCells p) rest (cellsOf later) (place-size cells i size h ∙ sym (place-length p)))
-    ∙ ap (λ (b : Bool). sameCells c (placeCells p) && sameCells rest (cellsOf later) && b) (place-then view p later)
-    ∙ crossed (sameCells c (placeCells p)) (sameCells rest (cellsOf later)) (placeFits view later p) (placesFit view later)
+    ∙ ap (λ (t : Table). sameCells (place ++ rest) (cellsOf t) && placesFit view t) (next cells i h)
+    ∙ ap (λ (b : Bool). b && placesFit view (p ∷ later)) (same-append place (placeCells p) rest (cellsOf later) (place-size cells i size h ∙ sym (place-length p)))
+    ∙ ap (λ (b : Bool). sameCells place (placeCells p) && sameCells rest (cellsOf later) && b) (place-then view p later)
+    ∙ crossed (sameCells place (placeCells p)) (sameCells rest (cellsOf later)) (placeFits view later p) (placesFit view later)
 
 pub sound-stops : (cells : List ℕ) (i : ℕ) → length cells ≡ 448 → i < 16 → soundPlace cells i ≡ false → soundFrom cells i ≡ false
 sound-stops cells i size h e = sound-next cells i size h ∙ ap (λ (b : Bool). b && soundFrom cells (i + 1)) e

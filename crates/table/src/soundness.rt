@@ -125,7 +125,7 @@ fn format_fits(format: u32) -> bool
     format / 256 % 256 <= 3
 }
 
-// Whether the formats of all modes are.
+// Whether the formats of all modes are within their lists.
 fn formats_fit(place: &[u32]) -> bool
     requires { ⌜ length (now place) ≡ 28 ⌝ }
     ensures { λ r. ⌜ r ≡ formatsInFit (now (place .entry)) ⌝ }

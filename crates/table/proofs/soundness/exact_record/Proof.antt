@@ -1,4 +1,4 @@
-use Rattle.table.proofs.InOrder.{stops, passes, ends, missed, held}
+use Rattle.table.proofs.SoundnessTests.{stops, passes, ends, missed, held}
 use Rattle.table.proofs.SoundnessExact.{exact-by}
 use borrow.Author.Needs.{needs}
 use Rattle.table.proofs.soundness.exact_record.Statement.{statement}

@@ -1,6 +1,6 @@
 use mathlib.Core.Path.{refl}
 use borrow.Author.Tests.{eq-eqb, ne-eqb}
-use Rattle.table.proofs.InOrder.{stops, passes, ends}
+use Rattle.table.proofs.SoundnessTests.{stops, passes, ends}
 use Rattle.table.proofs.SoundnessRecord.{exact-some, exact-none}
 use borrow.Author.Needs.{needs}
 use Rattle.table.proofs.soundness.exact_setup.Statement.{statement}

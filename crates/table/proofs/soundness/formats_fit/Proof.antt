@@ -2,8 +2,8 @@ use Prim.Native.Nat.{_≤_}
 use native.Mathlib.Omega.{arith}
 use mathlib.Core.Path.{_≡_, sym, _∙_}
 use Rattle.table.specs.Soundness.{formatsInFit}
-use Rattle.table.proofs.InOrder.{missed, held}
-use Rattle.table.proofs.SoundnessTable.{formatsBelow, formats-start, formats-stop, formats-pass, formats-none}
+use Rattle.table.proofs.SoundnessTests.{missed, held}
+use Rattle.table.proofs.SoundnessTable.{formatsBelow, formats-start, formats-stops, formats-passes, formats-none}
 use Rattle.table.proofs.soundness.formats_fit.Statement.{statement}
 use Rattle.table.proofs.soundness.formats_fit.Tie as tie
 
@@ -32,13 +32,13 @@ format-fits-requires : tie.Need-format-fits-requires Inv-loop μ-loop
 format-fits-requires c κs = tt
 
 returns : tie.Need-returns Inv-loop μ-loop
-returns c = sym (c .before .before .before .before .loop .inv .1 ∙ formats-stop (c .before .before .before .before .before .before .args .place .now) (c .before .before .before .before .loop .mode) (c .before .before .before .before .loop .inv .0) (c .before .before .before .loop-test .taken) (missed (c .before .format-fits .ensures) (c .if1 .taken)))
+returns c = sym (c .before .before .before .before .loop .inv .1 ∙ formats-stops (c .before .before .before .before .before .before .args .place .now) (c .before .before .before .before .loop .mode) (c .before .before .before .before .loop .inv .0) (c .before .before .before .loop-test .taken) (missed (c .before .format-fits .ensures) (c .if1 .taken)))
 
 loop-less : tie.Need-loop-less Inv-loop μ-loop
 loop-less c = omega (arith, c .before .before .before .loop-test .taken)
 
 loop-again : tie.Need-loop-again Inv-loop μ-loop
-loop-again c = (omega (arith, c .before .before .before .before .loop .inv .0), c .before .before .before .before .loop .inv .1 ∙ formats-pass (c .before .before .before .before .before .before .args .place .now) (c .before .before .before .before .loop .mode) (c .before .before .before .before .loop .inv .0) (c .before .before .before .loop-test .taken) (held (c .before .format-fits .ensures) (c .if1 .left)))
+loop-again c = (omega (arith, c .before .before .before .before .loop .inv .0), c .before .before .before .before .loop .inv .1 ∙ formats-passes (c .before .before .before .before .before .before .args .place .now) (c .before .before .before .before .loop .mode) (c .before .before .before .before .loop .inv .0) (c .before .before .before .loop-test .taken) (held (c .before .format-fits .ensures) (c .if1 .left)))
 
 returns-2 : tie.Need-returns-2 Inv-loop μ-loop
 returns-2 c = sym (c .before .loop .inv .1 ∙ formats-none (c .before .before .before .args .place .now) (c .before .loop .mode) (c .loop-test .left))

@@ -22,7 +22,7 @@ shared-slice-read-if1 : tie.Need-shared-slice-read-if1 Inv-loop μ-loop
 shared-slice-read-if1 c = omega (arith, c .before .before .before .pre, c .before .loop-test .taken)
 
 returns : tie.Need-returns Inv-loop μ-loop
-returns c = sym (c .before .before .before .loop .inv .1 ∙ empty-stops (c .before .before .before .before .args .place .now) (c .before .before .before .loop .k) (c .before .before .before .before .pre) (c .before .before .loop-test .taken) (c .if1 .taken))
+returns c = sym (c .before .before .before .loop .inv .1 ∙ empty-stops (c .before .before .before .before .args .place .now) (c .before .before .before .loop .k) (c .before .before .before .before .pre) (omega (arith, c .before .before .loop-test .taken)) (c .if1 .taken))
 
 add-k : tie.Need-add-k Inv-loop μ-loop
 add-k c = record { fits = omega (arith, c .before .before .loop-test .taken) }
@@ -31,10 +31,10 @@ loop-less : tie.Need-loop-less Inv-loop μ-loop
 loop-less c = omega (arith, c .before .before .loop-test .taken)
 
 loop-again : tie.Need-loop-again Inv-loop μ-loop
-loop-again c = (omega (arith, c .before .before .loop-test .taken), c .before .before .before .loop .inv .1 ∙ empty-passes (c .before .before .before .before .args .place .now) (c .before .before .before .loop .k) (c .before .before .before .before .pre) (c .before .before .loop-test .taken) (c .if1 .left))
+loop-again c = (omega (arith, c .before .before .loop-test .taken), c .before .before .before .loop .inv .1 ∙ empty-passes (c .before .before .before .before .args .place .now) (c .before .before .before .loop .k) (c .before .before .before .before .pre) (omega (arith, c .before .before .loop-test .taken)) (c .if1 .left))
 
 returns-2 : tie.Need-returns-2 Inv-loop μ-loop
-returns-2 c = sym (c .before .loop .inv .1 ∙ empty-done (c .before .before .args .place .now) (c .before .loop .k) (c .before .before .pre) (c .loop-test .left))
+returns-2 c = sym (c .before .loop .inv .1 ∙ empty-done (c .before .before .args .place .now) (c .before .loop .k) (c .before .before .pre) (omega (arith, c .loop-test .left)))
 
 pub is-empty-spec : {M : Type 1} → statement M
 is-empty-spec =

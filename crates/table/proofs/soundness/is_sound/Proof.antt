@@ -2,7 +2,7 @@ use Prim.Native.Nat.{_-_, _≤_}
 use native.Mathlib.Omega.{arith}
 use mathlib.Core.Path.{_≡_, sym, _∙_}
 use Rattle.rules.specs.Cells.{sound}
-use Rattle.table.proofs.InOrder.{missed, held}
+use Rattle.table.proofs.SoundnessTests.{missed, held}
 use Rattle.table.proofs.SoundnessTable.{soundFrom, sound-start, sound-stops, sound-passes, sound-done, wrong-size}
 use Rattle.table.proofs.soundness.is_sound.Statement.{statement}
 use Rattle.table.proofs.soundness.is_sound.Tie as tie

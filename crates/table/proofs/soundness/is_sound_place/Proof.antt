@@ -1,6 +1,6 @@
 use mathlib.Core.Bool.{not}
 use mathlib.Core.Path.{_∙_, ap}
-use Rattle.table.proofs.InOrder.{stops, passes, ends, missed, held}
+use Rattle.table.proofs.SoundnessTests.{stops, passes, ends, missed, held}
 use Rattle.table.proofs.SoundnessTable.{free-place, used-by}
 use borrow.Author.Needs.{needs}
 use Rattle.table.proofs.soundness.is_sound_place.Statement.{statement}

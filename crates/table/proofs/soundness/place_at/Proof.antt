@@ -28,7 +28,8 @@ part-result-end : tie.Need-part-result-end
 part-result-end c = search needs
 
 returns : tie.Need-returns
-returns c = let cells : List ℕ = c .before .args .table .now in
+returns c =
+    let cells : List ℕ = c .before .args .table .now in
     let i : ℕ = c .before .args .i in
     let width : 28 * i + 28 - 28 * i ≡ 28 = omega arith in
     let is : take (28 * i + 28 - 28 * i) (drop (28 * i) cells) ≡ placeAtIndex cells i = ap (λ (n : ℕ). take n (drop (28 * i) cells)) width in

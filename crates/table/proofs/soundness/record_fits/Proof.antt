@@ -1,5 +1,5 @@
 use borrow.Author.Tests.{lt-ltb, le-ltb}
-use Rattle.table.proofs.InOrder.{stops, passes, ends, missed, held}
+use Rattle.table.proofs.SoundnessTests.{stops, passes, ends, missed, held}
 use Rattle.table.proofs.SoundnessRecord.{record-by}
 use Rattle.rules.specs.Table.{viewOfTable}
 use Rattle.rules.specs.Cells.{tableAt}

@@ -1,5 +1,5 @@
 use borrow.Author.Tests.{eq-eqb, ne-eqb}
-use Rattle.table.proofs.InOrder.{stops, passes, ends}
+use Rattle.table.proofs.SoundnessTests.{stops, passes, ends}
 use Rattle.table.proofs.SoundnessRecord.{setups-by}
 use mathlib.Core.Path.{refl}
 use borrow.Author.Needs.{needs}

@@ -2,7 +2,7 @@ use Prim.Native.Nat.{_+_}
 use native.Mathlib.Omega.{arith}
 use mathlib.Core.Path.{refl}
 use borrow.Author.Tests.{le-leb, lt-leb}
-use Rattle.table.proofs.InOrder.{stops, passes, ends}
+use Rattle.table.proofs.SoundnessTests.{stops, passes, ends}
 use Rattle.table.proofs.SoundnessRecord.{setup-none, setup-by}
 use borrow.Author.Needs.{needs}
 use Rattle.table.proofs.soundness.setup_fits.Statement.{statement}
