@@ -14,7 +14,7 @@ use Rattle.protocol.specs.Form.{upFrom}
 use Rattle.rules.specs.Facts.{Setup, Format, Wiring, unjoined, virtual, Facts}
 use Rattle.rules.specs.Table.{Record, newRecord, wired, withFormat, answeredState, withAnswer, withAsk}
 use Rattle.rules.specs.Cells.{formatCell, setupCells, wiringCell, firstPartner, secondPartner, formatCells, modes, recordCells, placeCells, setupAt}
-use Rattle.table.specs.Step.{put}
+use Rattle.table.specs.Step.{Store, put}
 use Rattle.table.proofs.Stores.{storedIn, set-past}
 
 -- a record with other facts
@@ -23,8 +23,11 @@ with-facts r f = record { port = r .port; facts = f }
 
 -- ---- wiring
 
+abbrev pub wiring-stores : Wiring → List Store
+wiring-stores y = put 0 (wiringCell y) ∷ put 3 (firstPartner y) ∷ []
+
 pub wiring-block : (r : Record) (y : Wiring) → secondPartner y ≡ secondPartner (r .facts .wiring)
-    → storedIn (recordCells r) (put 0 (wiringCell y) ∷ put 3 (firstPartner y) ∷ []) ≡ recordCells (with-facts r (wired y (r .facts)))
+    → storedIn (recordCells r) (wiring-stores y) ≡ recordCells (with-facts r (wired y (r .facts)))
 unfolding recordCells
 wiring-block r y e =
     let f : Facts = r .facts in
@@ -62,8 +65,11 @@ setups-length none (some s) = refl
 setups-length (some s) none = refl
 setups-length (some s) (some t) = refl
 
+abbrev pub format-stores : ℕ → Format → List Store
+format-stores mode new = put (12 + mode) (formatCell (some new)) ∷ []
+
 pub format-block : (r : Record) (mode : ℕ) (new : Format) → mode ≤ 15
-    → storedIn (recordCells r) (put (12 + mode) (formatCell (some new)) ∷ []) ≡ recordCells (with-facts r (withFormat mode new (r .facts)))
+    → storedIn (recordCells r) (format-stores mode new) ≡ recordCells (with-facts r (withFormat mode new (r .facts)))
 unfolding recordCells
 format-block r mode new h =
     let f : Facts = r .facts in
@@ -74,6 +80,10 @@ format-block r mode new h =
 
 -- ---- setups
 
+-- a setup in the three cells from one on, and the state
+abbrev pub setup-stores : ℕ → Setup → ℕ → List Store
+setup-stores cell s state = put cell (s .mode + 1) ∷ put (cell + 1) (s .delta) ∷ put (cell + 2) (s .notify) ∷ put 5 state ∷ []
+
 ask-cells : (w port device a b state m d n : ℕ) (asked answered : Option Setup) (fs : List ℕ)
     → storedIn (w ∷ port ∷ device ∷ a ∷ b ∷ state ∷ (setupCells asked ++ setupCells answered ++ fs)) (put 6 m ∷ put 7 d ∷ put 8 n ∷ put 5 1 ∷ [])
     ≡ w ∷ port ∷ device ∷ a ∷ b ∷ 1 ∷ ((m ∷ d ∷ n ∷ []) ++ setupCells answered ++ fs)
@@ -81,7 +91,7 @@ ask-cells w port device a b state m d n none answered fs = refl
 ask-cells w port device a b state m d n (some s) answered fs = refl
 
 pub ask-block : (r : Record) (s : Setup)
-    → storedIn (recordCells r) (put 6 (s .mode + 1) ∷ put 7 (s .delta) ∷ put 8 (s .notify) ∷ put 5 1 ∷ []) ≡ recordCells (with-facts r (withAsk s (r .facts)))
+    → storedIn (recordCells r) (setup-stores 6 s 1) ≡ recordCells (with-facts r (withAsk s (r .facts)))
 unfolding recordCells
 ask-block r s =
     let f : Facts = r .facts in
@@ -97,7 +107,7 @@ answer-cells w port device a b state m d n new (some s) none fs = refl
 answer-cells w port device a b state m d n new (some s) (some t) fs = refl
 
 pub answer-block : (r : Record) (s : Setup)
-    → storedIn (recordCells r) (put 9 (s .mode + 1) ∷ put 10 (s .delta) ∷ put 11 (s .notify) ∷ put 5 (answeredState (r .facts .asked) s) ∷ []) ≡ recordCells (with-facts r (withAnswer s (r .facts)))
+    → storedIn (recordCells r) (setup-stores 9 s (answeredState (r .facts .asked) s)) ≡ recordCells (with-facts r (withAnswer s (r .facts)))
 unfolding recordCells
 answer-block r s =
     let f : Facts = r .facts in
@@ -132,11 +142,16 @@ second-block r = refl
 
 -- ---- a new record in a free place
 
-pub attach-block : (port device : ℕ) → storedIn (placeCells none) (put 0 1 ∷ put 1 port ∷ put 2 device ∷ []) ≡ placeCells (some (newRecord port device unjoined))
+abbrev pub attach-stores : ℕ → ℕ → List Store
+attach-stores port device = put 0 1 ∷ put 1 port ∷ put 2 device ∷ []
+
+pub attach-block : (port device : ℕ) → storedIn (placeCells none) (attach-stores port device) ≡ placeCells (some (newRecord port device unjoined))
 unfolding recordCells
 attach-block port device = refl
 
-pub virtual-block : (port device a b : ℕ)
-    → storedIn (placeCells none) (put 0 3 ∷ put 1 port ∷ put 2 device ∷ put 3 a ∷ put 4 b ∷ []) ≡ placeCells (some (newRecord port device (virtual a b)))
+abbrev pub virtual-stores : ℕ → ℕ → ℕ → ℕ → List Store
+virtual-stores port device a b = put 0 3 ∷ put 1 port ∷ put 2 device ∷ put 3 a ∷ put 4 b ∷ []
+
+pub virtual-block : (port device a b : ℕ) → storedIn (placeCells none) (virtual-stores port device a b) ≡ placeCells (some (newRecord port device (virtual a b)))
 unfolding recordCells
 virtual-block port device a b = refl

@@ -1,32 +1,24 @@
--- The steps of a table in its cells.
-use Prim.Native.Nat.{ℕ, suc, _+_, _*_, _≤_, _<_}
+-- The changes of a table in its cells.
+use Prim.Native.Nat.{ℕ, _*_}
 use native.Mathlib.Omega.{arith}
 use mathlib.Core.Path.{_≡_, refl, sym, _∙_, ap}
-use mathlib.Core.Bool.{Bool, true, false, cond, not, _&&_}
-use mathlib.Core.List.{List, [], _∷_}
+use mathlib.Core.Bool.{Bool, cond}
+use mathlib.Core.List.{List}
 use mathlib.Core.Option.{Option, none, some}
-use mathlib.Core.Logic.{⊎-elim}
-use borrow.Author.Tests.{eqb-false, ne-eqb}
-use lib.Dec.{eqb}
-use lib.ListN.{length, getD, set, replicate}
-use Rattle.protocol.proofs.Tests.{and-left, and-right}
-use Rattle.rules.specs.Effect.{attach, attachVirtual, detach, setFormat, answer, ask, empty}
-use Rattle.rules.specs.Facts.{Setup, Format, Wiring, unjoined, joined, virtual, Facts, known, isUnjoined, isVirtual}
-use Rattle.rules.specs.Table.{Record, Table, viewOfTable, fullTable, insert, change, remove, newRecord, wired, withFormat, answeredState, withAnswer, withAsk, dissolve, wiredAs, dissolveBy, detachBy, apply}
-use Rattle.rules.specs.Cells.{formatCell, wiringCell, firstPartner, secondPartner, recordCells, placeCells, cellsOf, tableAt, setupAt, sound, emptyCells}
-use Rattle.rules.specs.Judge.{unjoinedHere, goodPair}
-use Rattle.rules.proofs.Lookup.{after, mapFacts, view-change}
-use Rattle.rules.proofs.Sound.{wiring?, wiredIn, Distinct, Loose, Sound, Seen, seen}
-use Rattle.rules.proofs.Pairs.{port-first, port-second, at-first, at-second}
+use borrow.Author.Tests.{ne-eqb}
+use Rattle.rules.specs.Facts.{Wiring, unjoined, joined, virtual, Facts}
+use Rattle.rules.specs.Table.{Record, Table, viewOfTable, insert, change, remove, wired, dissolve}
+use Rattle.rules.specs.Cells.{secondPartner, recordCells, placeCells, cellsOf}
+use Rattle.rules.proofs.Lookup.{mapFacts, view-change}
+use Rattle.rules.proofs.Sound.{wiring?, wiredIn, Distinct, Loose, Sound, seen}
+use Rattle.rules.proofs.Pairs.{port-first, port-second}
 use Rattle.rules.proofs.Keep.{loose-change}
-use Rattle.rules.proofs.Apply.{fit-wired, loose-members, wired-dissolve, sound-dissolve}
-use Rattle.rules.proofs.CellsSound.{sound-is, empty-cells}
-use Rattle.rules.proofs.Laws.{table-sound}
+use Rattle.rules.proofs.Apply.{fit-wired, loose-members}
 use Rattle.table.specs.Place.{placeOf, firstFree}
-use Rattle.table.specs.Step.{Store, put, stored, zeroed}
-use Rattle.table.proofs.Stores.{storedIn, Within, place-stores, place-zeroed, cell-of, cells-length}
-use Rattle.table.proofs.Blocks.{wiring-block, format-block, ask-block, answer-block, asked-block, kind-block, first-block, second-block, attach-block, virtual-block}
-use Rattle.table.proofs.Changes.{Stands, stands, change-place, remove-place, insert-place, free-none, free-below, place-change, free-change, place-remove, freed-none}
+use Rattle.table.specs.Step.{Store, stored, zeroed}
+use Rattle.table.proofs.Stores.{storedIn, Within, place-stores, place-zeroed}
+use Rattle.table.proofs.Blocks.{wiring-stores, wiring-block}
+use Rattle.table.proofs.Changes.{stands, change-place, remove-place, insert-place, free-none, place-change}
 
 -- ---- the three changes
 
@@ -46,10 +38,6 @@ insert-cells t new s h block =
 
 -- ---- a wiring replaced
 
--- the stores of a wiring
-abbrev pub wiring-stores : Wiring → List Store
-wiring-stores y = put 0 (wiringCell y) ∷ put 3 (firstPartner y) ∷ []
-
 wire-cells : (t : Table) (port : ℕ) (y z : Wiring) → Distinct t → wiredIn t port ≡ some z → secondPartner y ≡ secondPartner z
     → stored (cellsOf t) (placeOf t port) (wiring-stores y) ≡ cellsOf (change port (wired y) t)
 wire-cells t port y z d e two =
@@ -57,15 +45,18 @@ wire-cells t port y z d e two =
     change-cells t port (wired y) (s .facts) (wiring-stores y) d (s .is) (omega arith, (omega arith, tt))
     (wiring-block (record { port = port; facts = s .facts }) y (two ∙ sym (ap secondPartner (s .wired))))
 
+-- what is known of another port
+view-kept : (t : Table) (p q : ℕ) (y : Wiring) → (p ≡ q → ⊥) → viewOfTable (change p (wired y) t) q ≡ viewOfTable t q
+view-kept t p q y n = view-change p (wired y) t q ∙ ap (λ (b : Bool). cond b (mapFacts (wired y) (viewOfTable t q)) (viewOfTable t q)) (ne-eqb p q n)
+
 -- of two ports one after the other
 pub pair-cells : (t : Table) (a b : ℕ) (y z : Wiring) → Loose t → wiredIn t a ≡ some z → wiredIn t b ≡ some z → (a ≡ b → ⊥) → secondPartner y ≡ secondPartner z
     → stored (stored (cellsOf t) (placeOf t a) (wiring-stores y)) (placeOf t b) (wiring-stores y) ≡ cellsOf (change b (wired y) (change a (wired y) t))
 pair-cells t a b y z l one two ab same =
     let u : Table = change a (wired y) t in
-    let still : viewOfTable u b ≡ viewOfTable t b = view-change a (wired y) t b ∙ ap (λ (x : Bool). cond x (mapFacts (wired y) (viewOfTable t b)) (viewOfTable t b)) (ne-eqb a b ab) in
     ap (λ (l : List ℕ). stored l (placeOf t b) (wiring-stores y)) (wire-cells t a y z (l .distinct) one same)
     ∙ ap (λ (i : ℕ). stored (cellsOf u) i (wiring-stores y)) (sym (place-change t a (wired y) b))
-    ∙ wire-cells u b y z (loose-change a (wired y) t l (fit-wired a y) .distinct) (ap wiring? still ∙ two) same
+    ∙ wire-cells u b y z (loose-change a (wired y) t l (fit-wired a y) .distinct) (ap wiring? (view-kept t a b y ab) ∙ two) same
 
 -- a virtual port dissolved
 pub dissolve-cells : (t : Table) (p a b : ℕ) → Sound t → wiredIn t p ≡ some (virtual a b)
@@ -76,8 +67,6 @@ dissolve-cells t p a b s e =
     let k = seen (viewOfTable t p) (virtual a b) e in
     let pa : a ≡ p → ⊥ = λ (i : a ≡ p). port-first (wiredIn t) (s .pairs) p a b e (sym i) in
     let pb : b ≡ p → ⊥ = λ (i : b ≡ p). port-second (wiredIn t) (s .pairs) p a b e (sym i) in
-    let first : viewOfTable u p ≡ viewOfTable t p = view-change a (wired unjoined) t p ∙ ap (λ (x : Bool). cond x (mapFacts (wired unjoined) (viewOfTable t p)) (viewOfTable t p)) (ne-eqb a p pa) in
-    let second : viewOfTable v p ≡ viewOfTable u p = view-change b (wired unjoined) u p ∙ ap (λ (x : Bool). cond x (mapFacts (wired unjoined) (viewOfTable u p)) (viewOfTable u p)) (ne-eqb b p pb) in
     let place : placeOf t p ≡ placeOf v p = sym (place-change u b (wired unjoined) p ∙ place-change t a (wired unjoined) p) in
     (λ i. zeroed (pair-cells t a b unjoined (joined p) (s .loose) (s .pairs .first p a b e) (s .pairs .second p a b e) (s .pairs .apart p a b e) refl i) (28 * place i) 28)
-    ∙ remove-cells v p (k .facts) (loose-members t a b unjoined (s .loose) .distinct) (second ∙ first ∙ k .is)
+    ∙ remove-cells v p (k .facts) (loose-members t a b unjoined (s .loose) .distinct) (view-kept u b p unjoined pb ∙ view-kept t a p unjoined pa ∙ k .is)

@@ -4,7 +4,7 @@ use native.Mathlib.Nat.{add-zero}
 use native.Mathlib.Omega.{arith}
 use mathlib.Core.Path.{_≡_, refl, sym, _∙_, ap}
 use mathlib.Core.Bool.{true, false}
-use mathlib.Core.List.{List, [], _∷_, _++_, append-nil}
+use mathlib.Core.List.{List, _++_, append-nil}
 use mathlib.Core.Option.{Option, none, some}
 use mathlib.Core.Logic.{⊎-elim}
 use lib.ListN.{length, getD, replicate, drop-of-length-le}
@@ -12,20 +12,20 @@ use Rattle.rules.specs.Effect.{attach, attachVirtual, detach, setFormat, answer
 use Rattle.rules.specs.Facts.{Setup, Format, Wiring, unjoined, joined, virtual, Facts, known, isVirtual}
 use Rattle.rules.specs.Table.{Record, Table, viewOfTable, fullTable, change, remove, newRecord, wired, withFormat, answeredState, withAnswer, withAsk, dissolve, wiredAs, dissolveBy, detachBy, apply}
 use Rattle.rules.specs.Judge.{goodPair}
-use Rattle.rules.specs.Cells.{formatCell, wiringCell, firstPartner, secondPartner, placeCells, cellsOf, tableAt, setupAt, sound, emptyCells}
+use Rattle.rules.specs.Cells.{wiringCell, firstPartner, secondPartner, placeCells, cellsOf, tableAt, setupAt, sound, emptyCells}
 use Rattle.rules.proofs.Sound.{wiring?, wiredIn, Sound, seen}
-use Rattle.rules.proofs.Pairs.{Named, port-first, port-second, at-first, at-second, three, joined-virtual}
+use Rattle.rules.proofs.Pairs.{Named, port-first, port-second, at-first, at-second, joined-virtual}
 use Rattle.rules.proofs.Apply.{wired-dissolve, sound-dissolve}
 use Rattle.rules.proofs.CellsSound.{sound-is, empty-cells}
 use Rattle.rules.proofs.Laws.{table-sound}
 use Rattle.table.specs.Place.{placeOf, firstFree}
-use Rattle.table.specs.Step.{put, stored, zeroed}
+use Rattle.table.specs.Step.{stored, zeroed}
 use Rattle.table.proofs.Places.{sixteen}
 use Rattle.table.proofs.Stores.{cell-of, cells-length}
-use Rattle.table.proofs.Blocks.{format-block, ask-block, answer-block, asked-block, kind-block, first-block, second-block, attach-block, virtual-block}
+use Rattle.table.proofs.Blocks.{wiring-stores, format-stores, setup-stores, attach-stores, virtual-stores, format-block, ask-block, answer-block, asked-block, kind-block, first-block, second-block, attach-block, virtual-block}
 use Rattle.table.proofs.Changes.{stands, free-below, place-change, free-change, place-remove, freed-none}
-use Rattle.table.proofs.Lifts.{change-cells, remove-cells, insert-cells, wiring-stores, pair-cells, dissolve-cells}
-use Rattle.table.proofs.Wirings.{present, kind-unjoined, kind-virtual, kind-joined, virtual-is, virtual-known, good-pair, wired-known, wired-as}
+use Rattle.table.proofs.Lifts.{change-cells, remove-cells, insert-cells, pair-cells, dissolve-cells}
+use Rattle.table.proofs.Wirings.{present, kind-unjoined, kind-virtual, kind-joined, virtual-is, good-pair, wired-known, wired-as}
 
 module _ (cells : List ℕ) (ok : sound cells ≡ true) where
   abbrev t : Table
@@ -52,18 +52,18 @@ module _ (cells : List ℕ) (ok : sound cells ≡ true) where
 
   -- ---- attaching
 
-  pub attach-is : (port device place : ℕ) (out : List ℕ) → place ≡ firstFree t → out ≡ stored cells place (put 0 1 ∷ put 1 port ∷ put 2 device ∷ []) → out ≡ cellsOf (apply (attach port device) t)
+  pub attach-is : (port device place : ℕ) (out : List ℕ) → place ≡ firstFree t → out ≡ stored cells place (attach-stores port device) → out ≡ cellsOf (apply (attach port device) t)
   unfolding apply
   attach-is port device place out at new =
-      new ∙ (λ i. stored (is i) (at i) (put 0 1 ∷ put 1 port ∷ put 2 device ∷ []))
-      ∙ insert-cells t (newRecord port device unjoined) (put 0 1 ∷ put 1 port ∷ put 2 device ∷ []) (omega arith, (omega arith, (omega arith, tt))) (attach-block port device)
+      new ∙ (λ i. stored (is i) (at i) (attach-stores port device))
+      ∙ insert-cells t (newRecord port device unjoined) (attach-stores port device) (omega arith, (omega arith, (omega arith, tt))) (attach-block port device)
 
   pub pair-known : (a b : ℕ) → goodPair (viewOfTable t) a b ≡ true → (known (viewOfTable t a) ≡ true) × (known (viewOfTable t b) ≡ true)
   pair-known a b good = let g = good-pair t a b good in (wired-known (viewOfTable t a) unjoined (g .one), wired-known (viewOfTable t b) unjoined (g .two))
 
   pub attach-virtual-is : (port device a b place one two : ℕ) (mid out : List ℕ) → goodPair (viewOfTable t) a b ≡ true → place ≡ firstFree t → one ≡ placeOf t a → two ≡ placeOf t b
-      → mid ≡ stored (stored cells one (put 0 2 ∷ put 3 port ∷ [])) two (put 0 2 ∷ put 3 port ∷ [])
-      → out ≡ stored mid place (put 0 3 ∷ put 1 port ∷ put 2 device ∷ put 3 a ∷ put 4 b ∷ [])
+      → mid ≡ stored (stored cells one (wiring-stores (joined port))) two (wiring-stores (joined port))
+      → out ≡ stored mid place (virtual-stores port device a b)
       → out ≡ cellsOf (apply (attachVirtual port device a b) t)
   unfolding apply
   attach-virtual-is port device a b place one two mid out good at at-a at-b joining new =
@@ -75,8 +75,8 @@ module _ (cells : List ℕ) (ok : sound cells ≡ true) where
       ∙ pair-cells t a b (joined port) unjoined (formed .loose) (g .one) (g .two) (g .apart) refl
       in
       let free : firstFree t ≡ firstFree v = sym (free-change u b (wired (joined port)) ∙ free-change t a (wired (joined port))) in
-      new ∙ (λ i. stored (joins i) ((at ∙ free) i) (put 0 3 ∷ put 1 port ∷ put 2 device ∷ put 3 a ∷ put 4 b ∷ []))
-      ∙ insert-cells v (newRecord port device (virtual a b)) (put 0 3 ∷ put 1 port ∷ put 2 device ∷ put 3 a ∷ put 4 b ∷ [])
+      new ∙ (λ i. stored (joins i) ((at ∙ free) i) (virtual-stores port device a b))
+      ∙ insert-cells v (newRecord port device (virtual a b)) (virtual-stores port device a b)
       (omega arith, (omega arith, (omega arith, (omega arith, (omega arith, tt))))) (virtual-block port device a b)
 
   -- ---- the record of a port that is present
@@ -110,26 +110,26 @@ module _ (cells : List ℕ) (ok : sound cells ≡ true) where
 
     -- ---- changes of its facts
 
-    pub set-format-is : (mode : ℕ) (new : Format) → mode ≤ 15 → stored cells place (put (12 + mode) (formatCell (some new)) ∷ []) ≡ cellsOf (apply (setFormat port mode new) t)
+    pub set-format-is : (mode : ℕ) (new : Format) → mode ≤ 15 → stored cells place (format-stores mode new) ≡ cellsOf (apply (setFormat port mode new) t)
     unfolding apply
     set-format-is mode new h =
-        (λ i. stored (is i) (at i) (put (12 + mode) (formatCell (some new)) ∷ []))
-        ∙ change-cells t port (withFormat mode new) f (put (12 + mode) (formatCell (some new)) ∷ []) (formed .loose .distinct) seen-as (omega arith, tt) (format-block itself mode new h)
+        (λ i. stored (is i) (at i) (format-stores mode new))
+        ∙ change-cells t port (withFormat mode new) f (format-stores mode new) (formed .loose .distinct) seen-as (omega arith, tt) (format-block itself mode new h)
 
-    pub ask-is : (s : Setup) (out : List ℕ) → out ≡ stored cells place (put 6 (s .mode + 1) ∷ put 7 (s .delta) ∷ put 8 (s .notify) ∷ put 5 1 ∷ []) → out ≡ cellsOf (apply (ask port s) t)
+    pub ask-is : (s : Setup) (out : List ℕ) → out ≡ stored cells place (setup-stores 6 s 1) → out ≡ cellsOf (apply (ask port s) t)
     unfolding apply
     ask-is s out new =
-        new ∙ (λ i. stored (is i) (at i) (put 6 (s .mode + 1) ∷ put 7 (s .delta) ∷ put 8 (s .notify) ∷ put 5 1 ∷ []))
-        ∙ change-cells t port (withAsk s) f (put 6 (s .mode + 1) ∷ put 7 (s .delta) ∷ put 8 (s .notify) ∷ put 5 1 ∷ []) (formed .loose .distinct) seen-as
+        new ∙ (λ i. stored (is i) (at i) (setup-stores 6 s 1))
+        ∙ change-cells t port (withAsk s) f (setup-stores 6 s 1) (formed .loose .distinct) seen-as
         (omega arith, (omega arith, (omega arith, (omega arith, tt)))) (ask-block itself s)
 
     pub answer-is : (s : Setup) (state : ℕ) (out : List ℕ) → state ≡ answeredState (setupAt (getD cells (28 * place + 6) 0) (getD cells (28 * place + 7) 0) (getD cells (28 * place + 8) 0)) s
-        → out ≡ stored cells place (put 9 (s .mode + 1) ∷ put 10 (s .delta) ∷ put 11 (s .notify) ∷ put 5 state ∷ []) → out ≡ cellsOf (apply (answer port s) t)
+        → out ≡ stored cells place (setup-stores 9 s state) → out ≡ cellsOf (apply (answer port s) t)
     unfolding apply
     answer-is s state out e new =
         let now : state ≡ answeredState (f .asked) s = e ∙ ap (λ (x : Option Setup). answeredState x s) asked-is in
-        new ∙ (λ i. stored (is i) (at i) (put 9 (s .mode + 1) ∷ put 10 (s .delta) ∷ put 11 (s .notify) ∷ put 5 (now i) ∷ []))
-        ∙ change-cells t port (withAnswer s) f (put 9 (s .mode + 1) ∷ put 10 (s .delta) ∷ put 11 (s .notify) ∷ put 5 (answeredState (f .asked) s) ∷ []) (formed .loose .distinct) seen-as
+        new ∙ (λ i. stored (is i) (at i) (setup-stores 9 s (now i)))
+        ∙ change-cells t port (withAnswer s) f (setup-stores 9 s (answeredState (f .asked) s)) (formed .loose .distinct) seen-as
         (omega arith, (omega arith, (omega arith, (omega arith, tt)))) (answer-block itself s)
 
     -- ---- it goes
@@ -173,7 +173,7 @@ module _ (cells : List ℕ) (ok : sound cells ≡ true) where
       pub second-known : known (viewOfTable t b) ≡ true
       second-known = wired-known (viewOfTable t b) (joined port) (formed .pairs .second port a b pair)
 
-      pub dissolve-is : (one two : ℕ) (mid out : List ℕ) → one ≡ placeOf t a → two ≡ placeOf t b → mid ≡ stored (stored cells one (put 0 1 ∷ put 3 0 ∷ [])) two (put 0 1 ∷ put 3 0 ∷ [])
+      pub dissolve-is : (one two : ℕ) (mid out : List ℕ) → one ≡ placeOf t a → two ≡ placeOf t b → mid ≡ stored (stored cells one (wiring-stores unjoined)) two (wiring-stores unjoined)
           → out ≡ zeroed mid (28 * place) 28 → out ≡ cellsOf (dissolveBy port (wiredAs (viewOfTable t port)) t)
       dissolve-is one two mid out at-a at-b freeing new =
           new ∙ ap (λ (l : List ℕ). zeroed l (28 * place) 28) freeing
