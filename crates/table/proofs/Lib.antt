@@ -1,6 +1,5 @@
 pub mod Blocks
 pub mod Changes
-pub mod InOrder
 pub mod Lifts
 pub mod Numbers
 pub mod Offers

@@ -3,16 +3,13 @@
 
 mod cells;
 mod product;
-#[cfg(feature = "table")]
 mod table;
 mod tally;
 mod writing;
 
 pub use cells::{cells, Cells, CELLS};
-#[cfg(feature = "table")]
 pub use product::{castanetash_dataset, castanetash_empty, castanetash_format, castanetash_offer, castanetash_port};
 pub use product::{castanetash_read, castanetash_write, read, way_byte, write};
-#[cfg(feature = "table")]
 pub use table::{
     dataset_cells, format_cells, offer_answer, port_cells, LentTable, TableTally, Trio, DATASET_CELLS, FORMAT_CELLS,
     NOT_SOUND, PORT_CELLS,

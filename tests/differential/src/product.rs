@@ -22,10 +22,8 @@ mod interface {
             output_len: usize,
         ) -> u64;
 
-        #[cfg(feature = "table")]
         pub fn castanetash_empty(table: *mut u32, table_len: usize) -> u64;
 
-        #[cfg(feature = "table")]
         pub fn castanetash_offer(
             table: *mut u32,
             table_len: usize,
@@ -34,7 +32,6 @@ mod interface {
             way: u8,
         ) -> u64;
 
-        #[cfg(feature = "table")]
         pub fn castanetash_dataset(
             table: *const u32,
             table_len: usize,
@@ -46,7 +43,6 @@ mod interface {
             cells_len: usize,
         ) -> usize;
 
-        #[cfg(feature = "table")]
         pub fn castanetash_port(
             table: *const u32,
             table_len: usize,
@@ -55,7 +51,6 @@ mod interface {
             cells_len: usize,
         ) -> usize;
 
-        #[cfg(feature = "table")]
         pub fn castanetash_format(
             table: *const u32,
             table_len: usize,
@@ -107,7 +102,6 @@ pub fn write(way: Way, cells: &Cells, open: &[u8], output: &mut [u8]) -> u64 {
 }
 
 /// Makes a table an empty one, as the product's C interface does it.
-#[cfg(feature = "table")]
 #[allow(unsafe_code)]
 pub fn castanetash_empty(table: &mut [u32]) -> u64 {
     // SAFETY: the pointer comes from a slice of the length passed with it, and the callee doesn't keep it.
@@ -115,7 +109,6 @@ pub fn castanetash_empty(table: &mut [u32]) -> u64 {
 }
 
 /// Offers a message to a table, as the product's C interface does it. Way 0 is down, any other up.
-#[cfg(feature = "table")]
 #[allow(unsafe_code)]
 pub fn castanetash_offer(table: &mut [u32], message: &[u8], way: u8) -> u64 {
     // SAFETY: each pointer comes from a slice of the length passed with it; the callee keeps neither pointer, reads
@@ -125,7 +118,6 @@ pub fn castanetash_offer(table: &mut [u32], message: &[u8], way: u8) -> u64 {
 
 /// Hands out a dataset, as the product's C interface does it. Way 0 is down, any other up. The table is lent as one
 /// that may change, so that a test can see that it doesn't.
-#[cfg(feature = "table")]
 #[allow(unsafe_code)]
 pub fn castanetash_dataset(table: &mut [u32], message: &[u8], way: u8, number: usize, cells: &mut [u64]) -> usize {
     // SAFETY: each pointer comes from a slice of the length passed with it; the callee keeps none of the pointers,
@@ -145,7 +137,6 @@ pub fn castanetash_dataset(table: &mut [u32], message: &[u8], way: u8, number: u
 }
 
 /// What a table holds about a port, as the product's C interface gives it. The table is lent as one that may change.
-#[cfg(feature = "table")]
 #[allow(unsafe_code)]
 pub fn castanetash_port(table: &mut [u32], port: u8, cells: &mut [u64]) -> usize {
     // SAFETY: each pointer comes from a slice of the length passed with it; the callee keeps neither pointer, reads
@@ -154,7 +145,6 @@ pub fn castanetash_port(table: &mut [u32], port: u8, cells: &mut [u64]) -> usize
 }
 
 /// The format of a port's mode, as the product's C interface gives it. The table is lent as one that may change.
-#[cfg(feature = "table")]
 #[allow(unsafe_code)]
 pub fn castanetash_format(table: &mut [u32], port: u8, mode: u8, cells: &mut [u64]) -> usize {
     // SAFETY: each pointer comes from a slice of the length passed with it; the callee keeps neither pointer, reads

@@ -8,7 +8,17 @@ use std::process::{Command, Output};
 
 use yardstick::Form;
 
-const PRINTED: &str = "written: 0A 00 41 00 02 01 00 00 00 01\nread: port 0, mode 2\n";
+/// The examples, each in C and in Rust, with what they have to print.
+const EXAMPLES: [(&str, &str); 2] = [
+    (
+        "write_and_read",
+        "written: 0A 00 41 00 02 01 00 00 00 01\nread: port 0, mode 2\n",
+    ),
+    (
+        "port_table",
+        "port 0: device 38, state 2\nmode 2: datasets 1, kind 2\ndataset 0: 5\n",
+    ),
+];
 
 /// The folder of the product's library.
 const LIBRARY: &str = env!("CASTANETASH_LIB_FOLDER");
@@ -22,9 +32,14 @@ fn root() -> &'static Path {
     root.expect("this package lies two folders below the root")
 }
 
-/// Where a program is built.
-fn built(name: &str) -> PathBuf {
-    Path::new(env!("CARGO_TARGET_TMPDIR")).join(name)
+/// The source of an example.
+fn source(name: &str, language: &str) -> PathBuf {
+    root().join("examples").join(format!("{name}.{language}"))
+}
+
+/// Where a program, or a part of it, is built.
+fn built(name: &str, part: &str) -> PathBuf {
+    Path::new(env!("CARGO_TARGET_TMPDIR")).join(format!("{name}_{part}"))
 }
 
 /// Runs a command, which has to succeed.
@@ -39,10 +54,10 @@ fn run(command: &mut Command) -> Output {
     output
 }
 
-/// Runs an example, which has to print what the examples print.
-fn run_example(program: &Path) {
+/// Runs an example, which has to print exactly that.
+fn run_example(program: &Path, printed: &str) {
     let output = run(&mut Command::new(program));
-    assert_eq!(String::from_utf8_lossy(&output.stdout), PRINTED, "{program:?}");
+    assert_eq!(String::from_utf8_lossy(&output.stdout), printed, "{program:?}");
 }
 
 /// A C compiler that looks for headers where the product's is.
@@ -53,46 +68,52 @@ fn cc() -> Command {
 }
 
 #[test]
-fn c_example() {
-    let program = built("write_and_read_c");
-    run(cc()
-        .arg("-std=c99")
-        .arg(root().join("examples/write_and_read.c"))
-        .arg(Path::new(LIBRARY).join("libcapi.a"))
-        .arg("-o")
-        .arg(&program));
-    run_example(&program);
+fn c_examples() {
+    for (name, printed) in EXAMPLES {
+        let program = built(name, "c");
+        run(cc()
+            .arg("-std=c99")
+            .arg(source(name, "c"))
+            .arg(Path::new(LIBRARY).join("libcapi.a"))
+            .arg("-o")
+            .arg(&program));
+        run_example(&program, printed);
+    }
 }
 
 #[test]
-fn rust_example() {
-    let program = built("write_and_read_rust");
+fn rust_examples() {
     let rustc = env::var("RUSTC").unwrap_or_else(|_| "rustc".to_owned());
-    run(Command::new(rustc)
-        .args(["--edition", "2021", "-D", "warnings"])
-        .arg("-L")
-        .arg(format!("native={LIBRARY}"))
-        .arg(root().join("examples/write_and_read.rs"))
-        .arg("-o")
-        .arg(&program));
-    run_example(&program);
+    for (name, printed) in EXAMPLES {
+        let program = built(name, "rust");
+        run(Command::new(&rustc)
+            .args(["--edition", "2021", "-D", "warnings"])
+            .arg("-L")
+            .arg(format!("native={LIBRARY}"))
+            .arg(source(name, "rs"))
+            .arg("-o")
+            .arg(&program));
+        run_example(&program, printed);
+    }
 }
 
-/// The same source is C++, so the header's names are those of C there too.
+/// The same sources are C++, so the header's names are those of C there too.
 #[test]
-fn c_example_as_cpp() {
-    let (object, program) = (built("write_and_read_cpp.o"), built("write_and_read_cpp"));
-    run(cc()
-        .args(["-x", "c++", "-std=c++11", "-c"])
-        .arg(root().join("examples/write_and_read.c"))
-        .arg("-o")
-        .arg(&object));
-    run(Command::new("cc")
-        .arg(&object)
-        .arg(Path::new(LIBRARY).join("libcapi.a"))
-        .arg("-o")
-        .arg(&program));
-    run_example(&program);
+fn c_examples_as_cpp() {
+    for (name, printed) in EXAMPLES {
+        let (object, program) = (built(name, "cpp.o"), built(name, "cpp"));
+        run(cc()
+            .args(["-x", "c++", "-std=c++11", "-c"])
+            .arg(source(name, "c"))
+            .arg("-o")
+            .arg(&object));
+        run(Command::new("cc")
+            .arg(&object)
+            .arg(Path::new(LIBRARY).join("libcapi.a"))
+            .arg("-o")
+            .arg(&program));
+        run_example(&program, printed);
+    }
 }
 
 /// The name of a form in the header: `CASTANETASH_HUB_ACTION` for `HubAction`.
