@@ -1,0 +1,37 @@
+-- Document 01's six records print exactly its seven lines.
+use Prim.Native.Nat.{ℕ, _-_}
+use mathlib.Core.Path.{_≡_}
+use mathlib.Core.List.{List, [], _∷_, _++_}
+use lib.ListN.{length, replicate}
+use Rattle.log.specs.Output.{output}
+
+-- a record at time 0 of a message with its direction
+abbrev recordOf : ℕ → List ℕ → List ℕ
+recordOf way message = (0 ∷ 0 ∷ 0 ∷ 0 ∷ way ∷ 0 ∷ 0 ∷ 0 ∷ message) ++ replicate (128 - length message) 0
+
+abbrev sixRecords : List ℕ
+sixRecords =
+    recordOf 1 (0x0F ∷ 0x00 ∷ 0x04 ∷ 0x00 ∷ 0x01 ∷ 0x26 ∷ 0x00 ∷ 0x00 ∷ 0x00 ∷ 0x00 ∷ 0x10 ∷ 0x00 ∷ 0x00 ∷ 0x00 ∷ 0x10 ∷ [])
+    ++ recordOf 1 (0x0A ∷ 0x00 ∷ 0x44 ∷ 0x00 ∷ 0x02 ∷ 0x80 ∷ 0x01 ∷ 0x02 ∷ 0x04 ∷ 0x00 ∷ [])
+    ++ recordOf 1 (0x08 ∷ 0x00 ∷ 0x45 ∷ 0x00 ∷ 0x05 ∷ 0x00 ∷ 0x00 ∷ 0x00 ∷ [])
+    ++ recordOf 0 (0x0A ∷ 0x00 ∷ 0x41 ∷ 0x00 ∷ 0x02 ∷ 0x01 ∷ 0x00 ∷ 0x00 ∷ 0x00 ∷ 0x01 ∷ [])
+    ++ recordOf 1 (0x0A ∷ 0x00 ∷ 0x47 ∷ 0x00 ∷ 0x02 ∷ 0x01 ∷ 0x00 ∷ 0x00 ∷ 0x00 ∷ 0x01 ∷ [])
+    ++ recordOf 1 (0x08 ∷ 0x00 ∷ 0x45 ∷ 0x00 ∷ 0x05 ∷ 0x00 ∷ 0x00 ∷ 0x00 ∷ [])
+
+-- "1 0", "2 0", "3 14", "4 0", "5 0", "6 0 0 2 2 5", "total 6 refused 1"
+abbrev sevenLines : List ℕ
+sevenLines =
+    49 ∷ 32 ∷ 48 ∷ 10
+    ∷ 50 ∷ 32 ∷ 48 ∷ 10
+    ∷ 51 ∷ 32 ∷ 49 ∷ 52 ∷ 10
+    ∷ 52 ∷ 32 ∷ 48 ∷ 10
+    ∷ 53 ∷ 32 ∷ 48 ∷ 10
+    ∷ 54 ∷ 32 ∷ 48 ∷ 32 ∷ 48 ∷ 32 ∷ 50 ∷ 32 ∷ 50 ∷ 32 ∷ 53 ∷ 10
+    ∷ 116 ∷ 111 ∷ 116 ∷ 97 ∷ 108 ∷ 32 ∷ 54 ∷ 32 ∷ 114 ∷ 101 ∷ 102 ∷ 117 ∷ 115 ∷ 101 ∷ 100 ∷ 32 ∷ 49 ∷ 10 ∷ []
+
+abbrev pub SixRecords : Type 0
+SixRecords = output 128 sixRecords ≡ sevenLines
+
+-- "total 0 refused 0"
+abbrev pub EmptyInput : Type 0
+EmptyInput = output 128 [] ≡ 116 ∷ 111 ∷ 116 ∷ 97 ∷ 108 ∷ 32 ∷ 48 ∷ 32 ∷ 114 ∷ 101 ∷ 102 ∷ 117 ∷ 115 ∷ 101 ∷ 100 ∷ 32 ∷ 48 ∷ 10 ∷ []

@@ -1,0 +1,7 @@
+pub mod Decimal
+pub mod Record
+pub mod Line
+pub mod Output
+pub mod Cutting
+pub mod Laws
+pub mod Examples

@@ -1,0 +1,1 @@
+// A night's log: its records, and the line that is printed of each.
