@@ -1,1 +1,2 @@
+pub mod Datasets
 pub mod Examples

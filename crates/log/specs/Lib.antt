@@ -1,3 +1,4 @@
+pub mod Dataset
 pub mod Decimal
 pub mod Record
 pub mod Line

@@ -20,12 +20,12 @@ pub data Line : Type 0 where
 
 -- ---- the datasets of a value, as they are handed out one after another
 
-abbrev withNumber : ℕ → Option (List ℕ) → Option (List ℕ)
+abbrev pub withNumber : ℕ → Option (List ℕ) → Option (List ℕ)
 withNumber n none = none
 withNumber n (some ns) = some (n ∷ ns)
 
 -- 17 ends them; none where one is refused before
-abbrev followedBy : Handed → Option (List ℕ) → Option (List ℕ)
+abbrev pub followedBy : Handed → Option (List ℕ) → Option (List ℕ)
 followedBy (Value.refused n place) rest = cond (eqb n 17) (some []) none
 followedBy (whole port mode state v) rest = withNumber v rest
 followedBy (float port mode state x) rest = withNumber (toBits binary32 x) rest
@@ -36,7 +36,7 @@ numbersFrom zero hand n = some []
 numbersFrom (suc most) hand n = followedBy (hand n) (numbersFrom most hand (suc n))
 
 -- 18: a dataset is an infinity or a NaN
-abbrev withNumbers : Handed → Option (List ℕ) → Line
+abbrev pub withNumbers : Handed → Option (List ℕ) → Line
 withNumbers h none = refused 18
 withNumbers (Value.refused n place) (some ns) = refused n
 withNumbers (whole port mode state v) (some ns) = values port mode state ns
