@@ -1,14 +1,16 @@
 // The product for callers in C and Rust: functions over numbers and slices.
 mod fill;
+mod port_table;
+mod way;
 
 use crate::fill::put;
+use crate::way::way_of;
 use codec::open_part;
 use codec::read;
 use message_cells::given::Given;
 use message_cells::given::find;
 use message_cells::message::message_cells;
 use protocol::Reading;
-use protocol::Way;
 use protocol::Written;
 use writer::write;
 ghost use mathlib.Core.Path.{_≡_};
@@ -20,12 +22,6 @@ ghost use Rattle.writer.specs.Writing.{lentAfter, writtenOf};
 ghost use Rattle.message_cells.specs.Cells.{cellsAfter, cellsOf, filled, openStart, wayOf};
 ghost use Rattle.message_cells.specs.Given.{givenOf};
 ghost use Rattle.capi.specs.Written.{answerNumber, writtenFrom};
-
-fn way_of(way: u8) -> Way
-    ensures { λ r. ⌜ r ≡ wayOf way ⌝ }
-{
-    if way == 0 { Way::Down } else { Way::Up }
-}
 
 // Where the last `count` of `size` bytes start; 0 where there are none.
 fn open_start(size: u64, count: u64) -> u64

@@ -18,7 +18,7 @@ fn signed(v: i32) -> u64
 }
 
 // A float as its 32 bits.
-fn float(x: f32) -> u64
+pub fn float(x: f32) -> u64
     ensures { λ r. ⌜ r ≡ toBits binary32 x ⌝ }
 {
     if x == x {
