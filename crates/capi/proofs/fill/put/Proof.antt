@@ -39,7 +39,7 @@ mul-cells : tie.Need-mul-cells Inv-loop μ-loop
 mul-cells c = search needs
 
 shared-slice-read-cells : tie.Need-shared-slice-read-cells Inv-loop μ-loop
-shared-slice-read-cells c = search needs
+shared-slice-read-cells c = omega (arith, c .before .loop-test .taken)
 
 mul-cells-2 : tie.Need-mul-cells-2 Inv-loop μ-loop
 mul-cells-2 c = search needs
