@@ -65,7 +65,12 @@ pub extern "C" fn castanetash_port(table: &[u32], number: u8, cells: &mut [u64])
 // What the table says of the format of a port's mode, in 6 cells. Returns 6; 0 where there are fewer
 // cells, of which none changes.
 #[no_mangle]
-pub extern "C" fn castanetash_format(table: &[u32], number: u8, mode: u8, cells: &mut [u64]) -> usize
+pub extern "C" fn castanetash_format(
+    table: &[u32],
+    number: u8,
+    mode: u8,
+    cells: &mut [u64],
+) -> usize
     ensures { λ r. ⌜ (r ≡ filledBy (formatRow (formatCells (now (table .entry)) number mode)) (now (cells .entry))) × (now (cells .exit) ≡ filledWith (formatRow (formatCells (now (table .entry)) number mode)) (now (cells .entry))) ⌝ }
 {
     let row = format_row(format(table, number, mode));

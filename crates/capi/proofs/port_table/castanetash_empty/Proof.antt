@@ -1,3 +1,5 @@
+use mathlib.Core.Path.{_∙_, ap}
+use Rattle.table_cells.specs.Rows.{saidNumber}
 use borrow.Author.Needs.{needs}
 use Rattle.capi.proofs.port_table.castanetash_empty.Statement.{statement}
 use Rattle.capi.proofs.port_table.castanetash_empty.Tie as tie
@@ -12,7 +14,7 @@ same-length : tie.Need-same-length
 same-length c = search needs
 
 returns : tie.Need-returns
-returns c = ?
+returns c = (c .outcome-number .ensures ∙ ap saidNumber (c .before .before .before .empty .ensures .0), c .before .before .before .empty .ensures .1)
 
 pub castanetash-empty-spec : {M : Type 1} → statement M
 castanetash-empty-spec =
