@@ -6,7 +6,7 @@ use Rattle.protocol.specs.Encode.{Encoded, encoded, refused}
 use Rattle.writer.specs.Writing.{writtenOf}
 use Rattle.protocol.specs.declared.Written.{Written}
 use Rattle.protocol.specs.declared.Written.the-variants.{Length, Refused}
-use Rattle.capi.specs.Given.{answerNumber}
+use Rattle.capi.specs.Written.{answerNumber}
 
 pub length-number : (w : Written) (n : ℕ) (e : Encoded) → w ≡ Length n → w ≡ writtenOf e → n ≡ answerNumber e
 length-number w n (encoded bytes) k e = cc

@@ -1,2 +1,2 @@
-pub mod Cells
-pub mod Given
+pub mod Filled
+pub mod Written

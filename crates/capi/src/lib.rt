@@ -1,31 +1,27 @@
 // The product for callers in C and Rust: functions over numbers and slices.
-mod given;
-mod message;
+mod fill;
+mod port_table;
+mod way;
 
-use crate::given::Given;
-use crate::given::find;
-use crate::message::message_cells;
+use crate::fill::put;
+use crate::way::way_of;
 use codec::open_part;
 use codec::read;
+use message_cells::given::Given;
+use message_cells::given::find;
+use message_cells::message::message_cells;
 use protocol::Reading;
-use protocol::Way;
 use protocol::Written;
 use writer::write;
 ghost use mathlib.Core.Path.{_≡_};
 ghost use Prim.Native.Nat.{_≤_};
-ghost use lib.ListN.{drop, length};
-ghost use mathlib.Core.List.{_++_};
+ghost use lib.ListN.{length};
 ghost use Rattle.protocol.specs.Answer.{answerOf};
 ghost use Rattle.protocol.specs.Encode.{Encoded};
 ghost use Rattle.writer.specs.Writing.{lentAfter, writtenOf};
-ghost use Rattle.capi.specs.Given.{answerNumber, givenOf, writtenFrom};
-ghost use Rattle.capi.specs.Cells.{cellsAfter, cellsOf, filled, openStart, wayOf};
-
-fn way_of(way: u8) -> Way
-    ensures { λ r. ⌜ r ≡ wayOf way ⌝ }
-{
-    if way == 0 { Way::Down } else { Way::Up }
-}
+ghost use Rattle.message_cells.specs.Cells.{cellsAfter, cellsOf, filled, openStart, wayOf};
+ghost use Rattle.message_cells.specs.Given.{givenOf};
+ghost use Rattle.capi.specs.Written.{answerNumber, writtenFrom};
 
 // Where the last `count` of `size` bytes start; 0 where there are none.
 fn open_start(size: u64, count: u64) -> u64
@@ -56,18 +52,6 @@ fn cells_of(reading: Reading, size: u64, count: u64) -> [u64; 20]
     }
 }
 
-// Puts 20 cells in front of what stands behind them.
-fn put(cells: &mut [u64], from: [u64; 20])
-    requires { ⌜ (20 ≤ length (now cells)) × (length from ≡ 20) ⌝ }
-    ensures { λ _. ⌜ now (cells .exit) ≡ from ++ drop 20 (now (cells .entry)) ⌝ }
-{
-    let mut i = 0;
-    while i < 20 {
-        cells[i] = from[i];
-        i += 1;
-    }
-}
-
 // Reads one message (`way`: 0 down, else up) and fills the first 20 cells: refusal number (0:
 // accepted), place, form (from 1), where the open bytes start, how many they are, how many values,
 // the values from left to right. Returns 20; 0 where there are fewer cells, of which none changes.
@@ -81,7 +65,8 @@ pub extern "C" fn castanetash_read(message: &[u8], way: u8, cells: &mut [u64]) -
     let w = way_of(way);
     let reading = read(message, w);
     let open = open_part(message, w).len();
-    put(cells, cells_of(reading, message.len() as u64, open as u64));
+    let row = cells_of(reading, message.len() as u64, open as u64);
+    put(cells, &row);
     20
 }
 

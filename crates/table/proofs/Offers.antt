@@ -1,6 +1,5 @@
 -- Offering a message: what judging says of the table, what changes, and what is answered.
 use Prim.Native.Nat.{ℕ, suc, _≤_, _<_}
-use native.Mathlib.Omega.{arith}
 use mathlib.Core.Path.{_≡_, refl, sym, _∙_, ap}
 use mathlib.Core.Bool.{Bool, true, false, cond}
 use mathlib.Core.List.{List, [], _∷_}
@@ -8,7 +7,7 @@ use mathlib.Core.Option.{some}
 use types.Run.{OneOf, miss}
 use denote.Enum.Declared.{tagOf}
 use borrow.Author.Tests.{ne-eqb, leb-true}
-use lib.Dec.{eqb, leb}
+use lib.Dec.{leb}
 use lib.ListN.{getD, length, drop}
 use Rattle.protocol.specs.Number.{Bytes}
 use Rattle.protocol.specs.Decode.{Answer, accepted, decode, openOf}
@@ -36,7 +35,6 @@ use Rattle.effects.specs.declared.Effect.the-variants as Case
 use Rattle.effects.specs.Told.{told}
 use Rattle.effects.proofs.Effect.{the-type}
 use Rattle.table.specs.Judged.{judgedBy, verdictBy}
-use Rattle.table.specs.Outcome.{Said, outcomeOf, saidBy}
 
 -- ---- what judging says of the table
 

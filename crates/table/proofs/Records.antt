@@ -8,19 +8,18 @@ use mathlib.Core.Option.{Option, none, some}
 use mathlib.Core.Logic.{_⊎_, inl, inr}
 use borrow.Author.Tests.{eq-eqb, ne-eqb, lt-ltb, leb-true, ltb-true}
 use lib.Dec.{eqb, leb, ltb}
-use lib.ListN.{length, getD, take, drop}
+use lib.ListN.{getD, drop}
 use lib.Seq.{getD-take, getD-drop}
-use Rattle.protocol.proofs.Tests.{and-left, and-right}
-use Rattle.rules.specs.Facts.{Setup, Format, Facts, Wiring, unjoined, joined, virtual, isUnjoined, isVirtual, known, modeIn}
-use Rattle.rules.specs.Table.{viewOfTable, modeBy, modesOfTable, fullTable}
-use Rattle.rules.specs.Judge.{judge, widthOf, unjoinedHere, judgeDisconnect, judgeValue, byFormat}
-use Rattle.rules.specs.WellFormed.{setupFits, formatsFit, stateFits, factsFit}
+use Rattle.protocol.proofs.Tests.{and-left}
+use Rattle.rules.specs.Facts.{Format, Facts, Wiring, unjoined, joined, virtual, isUnjoined, isVirtual, known, modeIn}
+use Rattle.rules.specs.Table.{viewOfTable, modeBy, modesOfTable}
+use Rattle.rules.specs.Judge.{widthOf, unjoinedHere, judgeDisconnect, judgeValue, byFormat}
+use Rattle.rules.specs.WellFormed.{setupFits, formatsFit, stateFits}
 use Rattle.rules.specs.Cells.{formatAt, setupAt, wiringAt, recordAt, tableAt, sound}
 use Rattle.rules.proofs.CellsRecord.{five-passed}
 use Rattle.rules.proofs.Sound.{Fit}
 use Rattle.rules.proofs.Laws.{table-sound}
 use Rattle.effects.specs.declared.Effect.{Effect}
-use Rattle.effects.specs.Told.{told}
 use Rattle.table.specs.Handed.{formatOf}
 use Rattle.table.specs.Judged.{judgedBy}
 use Rattle.table.specs.Place.{placeAtIndex, factsAt}

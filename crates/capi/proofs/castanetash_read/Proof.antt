@@ -1,19 +1,23 @@
-use Rattle.protocol.specs.Answer.{answerOf}
 use Prim.Native.Nat.{ℕ}
-use mathlib.Core.Path.{_∙_, ap}
+use native.Mathlib.Omega.{arith}
+use mathlib.Core.Path.{_≡_, sym, _∙_, ap}
+use mathlib.Core.Bool.{true, false}
 use mathlib.Core.List.{List, _++_}
+use lib.Dec.{ltb}
 use lib.ListN.{length, drop}
-use Rattle.capi.proofs.OpenPart.{open-short}
-use Rattle.capi.proofs.Cells.{twenty}
 use borrow.Author.Tests.{lt-ltb, le-ltb}
-use Rattle.capi.specs.Cells.{cellsAfter, readCells}
+use Rattle.message_cells.specs.Cells.{cellsAfter, readCells}
+use Rattle.capi.proofs.OpenPart.{open-short}
 use borrow.Author.Needs.{needs}
 use Rattle.capi.proofs.castanetash_read.Statement.{statement}
 use Rattle.capi.proofs.castanetash_read.Tie as tie
 
 returns : tie.Need-returns
 unfolding cellsAfter readCells
-returns c = (rw (lt-ltb _ _ (c .if1 .taken)), rw (lt-ltb _ _ (c .if1 .taken)))
+returns c =
+    let before = c .before .before .before .args .cells .now in
+    let few : ltb (length before) 20 ≡ true = lt-ltb (length before) 20 (omega (arith, c .if1 .taken)) in
+    (rw few, rw few)
 
 way-of-requires : tie.Need-way-of-requires
 way-of-requires c κs = search needs
@@ -25,10 +29,13 @@ open-part-requires : tie.Need-open-part-requires
 open-part-requires c κs = search needs
 
 cells-of-requires : tie.Need-cells-of-requires
-cells-of-requires c κs = rw (c .before .open-part .ensures) (open-short _ _)
+cells-of-requires c κs = rw (c .open-part .ensures) (open-short _ _)
+
+slice-aggregate-put : tie.Need-slice-aggregate-put
+slice-aggregate-put c = search needs
 
 put-requires : tie.Need-put-requires
-put-requires c κs = (search needs, ap length (c .cells-of .ensures) ∙ twenty (length (c .before .before .before .before .before .before .before .before .args .message .now)) (length (c .before .before .open-part .result .now)) (answerOf (c .before .before .before .read .result)))
+put-requires c κs = omega (arith, slice-aggregate-put c, c .before .before .before .before .before .before .if1 .left)
 
 same-length : tie.Need-same-length
 same-length c = search needs
@@ -36,9 +43,12 @@ same-length c = search needs
 returns-2 : tie.Need-returns-2
 unfolding cellsAfter readCells
 returns-2 c =
-    let enough = le-ltb _ _ (c .before .before .before .before .before .before .before .before .if1 .left) in
-    let handed = rw (c .before .before .before .before .before .open-part .ensures, c .before .before .before .before .before .before .read .ensures, c .before .before .before .before .before .before .before .way-of .ensures) at (c .before .before .before .cells-of .ensures) in
-    (rw enough, rw enough (c .before .before .put .ensures ∙ ap (λ (l : List ℕ). l ++ drop 20 (c .before .before .before .before .before .before .before .before .before .before .before .args .cells .now)) handed))
+    let before = c .before .before .before .before .before .before .before .before .before .before .before .before .args .cells .now in
+    let row = c .before .before .before .before .before .cells-of .result in
+    let enough : ltb (length before) 20 ≡ false = le-ltb (length before) 20 (omega (arith, c .before .before .before .before .before .before .before .before .before .if1 .left)) in
+    let size : length row ≡ 20 = sym (slice-aggregate-put (c .before .before .before)) in
+    let handed = rw (c .before .before .before .before .before .before .open-part .ensures, c .before .before .before .before .before .before .before .read .ensures, c .before .before .before .before .before .before .before .before .way-of .ensures) at (c .before .before .before .before .before .cells-of .ensures) in
+    (rw enough, rw enough (c .before .before .put .ensures ∙ ap (λ (k : ℕ). row ++ drop k before) size ∙ ap (λ (l : List ℕ). l ++ drop 20 before) handed))
 
 pub castanetash-read-spec : {M : Type 1} → statement M
 castanetash-read-spec =
@@ -49,6 +59,7 @@ castanetash-read-spec =
     read-requires
     open-part-requires
     cells-of-requires
+    slice-aggregate-put
     put-requires
     same-length
     returns-2)

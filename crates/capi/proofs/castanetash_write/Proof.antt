@@ -3,10 +3,11 @@ use lib.ListN.{length}
 use Rattle.protocol.specs.Encode.{Encoded, encode}
 use Rattle.writer.specs.Writing.{limited, lentAfter}
 use Rattle.protocol.specs.declared.Way.{Way}
-use Rattle.capi.specs.Cells.{wayOf}
-use Rattle.capi.specs.Given.{givenOf, writtenFrom, answerNumber}
-use Rattle.capi.specs.declared.given.Given.{Given}
-use Rattle.capi.specs.declared.given.Given.the-variants.{Found, Nothing}
+use Rattle.message_cells.specs.Cells.{wayOf}
+use Rattle.message_cells.specs.Given.{givenOf}
+use Rattle.capi.specs.Written.{writtenFrom, answerNumber}
+use Rattle.message_cells.specs.declared.given.Given.{Given}
+use Rattle.message_cells.specs.declared.given.Given.the-variants.{Found, Nothing}
 use borrow.Author.Needs.{needs}
 use Rattle.capi.proofs.castanetash_write.Statement.{statement}
 use Rattle.capi.proofs.castanetash_write.Tie as tie

@@ -1,6 +1,4 @@
-use mathlib.Core.Path.{sym, ap}
 use borrow.Author.Tests.{le-leb, lt-leb}
-use Rattle.protocol.specs.Rule.{between}
 use Rattle.effects.specs.Told.{told}
 use Rattle.effects.proofs.action_effect.Statement.{statement}
 use Rattle.effects.proofs.action_effect.Tie as tie

@@ -4,7 +4,6 @@ use mathlib.Core.Path.{sym, ap}
 use lib.ListN.{getD}
 use Rattle.rules.specs.Cells.{setupAt}
 use Rattle.table.proofs.Queries.{setup-some, small-setup}
-use Rattle.table.proofs.Records.{positive}
 use borrow.Author.Needs.{needs}
 use Rattle.table.proofs.query.setup_at.Statement.{statement}
 use Rattle.table.proofs.query.setup_at.Tie as tie

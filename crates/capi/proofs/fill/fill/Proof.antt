@@ -1,0 +1,27 @@
+use mathlib.Core.Path.{_≡_}
+use mathlib.Core.Bool.{true, false}
+use lib.Dec.{ltb}
+use lib.ListN.{length}
+use borrow.Author.Tests.{lt-ltb, le-ltb}
+use borrow.Author.Needs.{needs}
+use Rattle.capi.proofs.fill.fill.Statement.{statement}
+use Rattle.capi.proofs.fill.fill.Tie as tie
+
+returns : tie.Need-returns
+returns c =
+    let few : ltb (length (c .before .before .before .args .cells .now)) (length (c .before .before .before .args .row .now)) ≡ true = lt-ltb (length (c .before .before .before .args .cells .now)) (length (c .before .before .before .args .row .now)) (c .if1 .taken) in
+    (rw few, rw few)
+
+put-requires : tie.Need-put-requires
+put-requires c κs = search needs
+
+same-length : tie.Need-same-length
+same-length c = search needs
+
+returns-2 : tie.Need-returns-2
+returns-2 c =
+    let enough : ltb (length (c .before .before .before .before .before .before .before .args .cells .now)) (length (c .before .before .before .before .before .before .before .args .row .now)) ≡ false = le-ltb (length (c .before .before .before .before .before .before .before .args .cells .now)) (length (c .before .before .before .before .before .before .before .args .row .now)) (c .before .before .before .before .if1 .left) in
+    (rw enough, rw enough (c .before .before .put .ensures))
+
+pub fill-spec : {M : Type 1} → statement M
+fill-spec = tie.close (tie.spec returns put-requires same-length returns-2)

@@ -1,0 +1,38 @@
+use Prim.Native.Nat.{ℕ}
+use mathlib.Core.Path.{_∙_, ap}
+use mathlib.Core.List.{List}
+use Rattle.table_cells.specs.Rows.{portRow}
+use Rattle.capi.specs.Filled.{filledBy, filledWith}
+use borrow.Author.Needs.{needs}
+use Rattle.capi.proofs.port_table.castanetash_port.Statement.{statement}
+use Rattle.capi.proofs.port_table.castanetash_port.Tie as tie
+
+port-requires : tie.Need-port-requires
+port-requires c κs = search needs
+
+port-row-requires : tie.Need-port-row-requires
+port-row-requires c κs = search needs
+
+slice-aggregate-fill : tie.Need-slice-aggregate-fill
+slice-aggregate-fill c = search needs
+
+fill-requires : tie.Need-fill-requires
+fill-requires c κs = search needs
+
+same-length : tie.Need-same-length
+same-length c = search needs
+
+returns : tie.Need-returns
+returns c =
+    (c .before .before .fill .ensures .0 ∙ ap (λ (row : List ℕ). filledBy row (c .before .before .before .before .before .before .before .before .before .args .cells .now)) (c .before .before .before .before .before .port-row .ensures ∙ ap portRow (c .before .before .before .before .before .before .port .ensures)), c .before .before .fill .ensures .1 ∙ ap (λ (row : List ℕ). filledWith row (c .before .before .before .before .before .before .before .before .before .args .cells .now)) (c .before .before .before .before .before .port-row .ensures ∙ ap portRow (c .before .before .before .before .before .before .port .ensures)))
+
+pub castanetash-port-spec : {M : Type 1} → statement M
+castanetash-port-spec =
+    tie.close
+    (tie.spec
+    port-requires
+    port-row-requires
+    slice-aggregate-fill
+    fill-requires
+    same-length
+    returns)

@@ -1,0 +1,78 @@
+// A port table, whose cells the caller lends.
+use crate::fill::fill;
+use crate::way::way_of;
+use table::dataset;
+use table::empty;
+use table::format;
+use table::offer;
+use table::port;
+use table_cells::dataset_row;
+use table_cells::format_row;
+use table_cells::outcome_number;
+use table_cells::port_row;
+ghost use mathlib.Core.Path.{_≡_};
+ghost use Rattle.rules.specs.Offer.{cellsAfter, handCells, offerCells};
+ghost use Rattle.message_cells.specs.Cells.{wayOf};
+ghost use Rattle.table.specs.Outcome.{emptied, emptyingSays, saidBy};
+ghost use Rattle.table.specs.Query.{formatCells, portCells};
+ghost use Rattle.table_cells.specs.Rows.{formatRow, handedRow, portRow, saidNumber};
+ghost use Rattle.capi.specs.Filled.{filledBy, filledWith};
+
+// Makes an empty table of 448 cells. Returns 0; another number of cells is 9 times 2 ^ 32, and
+// nothing changes.
+#[no_mangle]
+pub extern "C" fn castanetash_empty(table: &mut [u32]) -> u64
+    ensures { λ r. ⌜ (r ≡ saidNumber (emptyingSays (now (table .entry)))) × (now (table .exit) ≡ emptied (now (table .entry))) ⌝ }
+{
+    outcome_number(empty(table))
+}
+
+// Offers a message to a table. Returns 0 where it is accepted; else the refusal number times 2 ^ 32
+// plus the place, and nothing changes.
+#[no_mangle]
+pub extern "C" fn castanetash_offer(table: &mut [u32], message: &[u8], way: u8) -> u64
+    ensures { λ r. ⌜ (r ≡ saidNumber (saidBy (offerCells (now (table .entry)) (record { way = wayOf way; bytes = now (message .entry) })))) × (now (table .exit) ≡ cellsAfter (now (table .entry)) (record { way = wayOf way; bytes = now (message .entry) })) ⌝ }
+{
+    outcome_number(offer(table, message, way_of(way)))
+}
+
+// Hands out one dataset of a message, in 7 cells. Returns 7; 0 where there are fewer cells, of which
+// none changes.
+#[no_mangle]
+pub extern "C" fn castanetash_dataset(
+    table: &[u32],
+    message: &[u8],
+    way: u8,
+    number: usize,
+    cells: &mut [u64],
+) -> usize
+    ensures { λ r. ⌜ (r ≡ filledBy (handedRow (handCells (now (table .entry)) (record { way = wayOf way; bytes = now (message .entry) }) number)) (now (cells .entry))) × (now (cells .exit) ≡ filledWith (handedRow (handCells (now (table .entry)) (record { way = wayOf way; bytes = now (message .entry) }) number)) (now (cells .entry))) ⌝ }
+{
+    let row = dataset_row(dataset(table, message, way_of(way), number));
+    fill(cells, &row)
+}
+
+// What the table says of a port, in 14 cells. Returns 14; 0 where there are fewer cells, of which
+// none changes.
+#[no_mangle]
+pub extern "C" fn castanetash_port(table: &[u32], number: u8, cells: &mut [u64]) -> usize
+    ensures { λ r. ⌜ (r ≡ filledBy (portRow (portCells (now (table .entry)) number)) (now (cells .entry))) × (now (cells .exit) ≡ filledWith (portRow (portCells (now (table .entry)) number)) (now (cells .entry))) ⌝ }
+{
+    let row = port_row(port(table, number));
+    fill(cells, &row)
+}
+
+// What the table says of the format of a port's mode, in 6 cells. Returns 6; 0 where there are fewer
+// cells, of which none changes.
+#[no_mangle]
+pub extern "C" fn castanetash_format(
+    table: &[u32],
+    number: u8,
+    mode: u8,
+    cells: &mut [u64],
+) -> usize
+    ensures { λ r. ⌜ (r ≡ filledBy (formatRow (formatCells (now (table .entry)) number mode)) (now (cells .entry))) × (now (cells .exit) ≡ filledWith (formatRow (formatCells (now (table .entry)) number mode)) (now (cells .entry))) ⌝ }
+{
+    let row = format_row(format(table, number, mode));
+    fill(cells, &row)
+}

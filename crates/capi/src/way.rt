@@ -1,0 +1,11 @@
+// The way of a message as a number.
+use protocol::Way;
+ghost use mathlib.Core.Path.{_≡_};
+ghost use Rattle.message_cells.specs.Cells.{wayOf};
+
+// 0 is down, any other number up.
+pub(crate) fn way_of(way: u8) -> Way
+    ensures { λ r. ⌜ r ≡ wayOf way ⌝ }
+{
+    if way == 0 { Way::Down } else { Way::Up }
+}

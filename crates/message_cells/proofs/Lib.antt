@@ -1,0 +1,4 @@
+pub mod Cells
+pub mod Settled
+pub mod Built
+pub mod Same
