@@ -1,1 +1,4 @@
 pub mod Examples
+pub mod Lines
+pub mod Cutting
+pub mod Laws
