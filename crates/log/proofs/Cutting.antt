@@ -1,13 +1,13 @@
 -- From any run on: what is printed step by step, and the ending, are the lines of all the input that is still there or comes.
 use Prim.Native.Nat.{ℕ, _+_, _*_, _≤_, _<_, min}
-use mathlib.Core.Path.{_≡_, refl, sym, _∙_, ap}
+use mathlib.Core.Path.{_≡_, sym, _∙_, ap}
 use mathlib.Core.List.{List, [], _∷_, _++_, append-assoc, append-nil}
 use native.Mathlib.Nat.{le-trans, min-le-right, mul-le-mul-right, div-mul-le-self}
 use native.Mathlib.Omega.{arith}
 use lib.ListN.{length, length-append}
 use Rattle.log.specs.Record.{recordSize}
 use Rattle.log.specs.Line.{Line}
-use Rattle.log.specs.Output.{linesOf, cellsThrough, records, lastLine, numbered, refusedAmong, totalText}
+use Rattle.log.specs.Output.{linesOf, records, numbered, refusedAmong, totalText}
 use Rattle.log.specs.Cutting.{Step, more, work, Run, worked, printed, step, through, textThrough, ending, wholeInput}
 use Rattle.log.proofs.Lines.{linesFrom, length-lines, refused-append, numbered-append, records-first, no-record}
 
@@ -28,11 +28,11 @@ first-lines before refused ls ms =
     ∙ ap (λ (n : ℕ). numbered before (ls ++ ms) ++ totalText (before + length (ls ++ ms)) n) refused-total
 
 -- all that is printed of a run, with the input that comes
-abbrev output-of : ℕ → Run → List ℕ → List ℕ
-output-of part r t = closing (r .lines) (r .refused) (linesFrom part (r .cells) (r .rest ++ t))
+abbrev pub outputFrom : ℕ → Run → List ℕ → List ℕ
+outputFrom part r t = closing (r .lines) (r .refused) (linesFrom part (r .cells) (r .rest ++ t))
 
--- a number of records that are there whole
-some-worked : (part n : ℕ) (r : Run) (t : List ℕ) → n * recordSize part ≤ length (r .rest) → printed part n r ++ output-of part (worked part n r) t ≡ output-of part r t
+-- records that are there whole are worked through first
+some-worked : (part n : ℕ) (r : Run) (t : List ℕ) → n * recordSize part ≤ length (r .rest) → printed part n r ++ outputFrom part (worked part n r) t ≡ outputFrom part r t
 some-worked part n r t h =
     let ls : List Line = linesOf part n (r .cells) (r .rest) in
     let after : Run = worked part n r in
@@ -45,10 +45,12 @@ some-worked part n r t h =
     ∙ first-lines (r .lines) (r .refused) ls ms
     ∙ ap (closing (r .lines) (r .refused)) (sym (records-first part n (r .cells) (r .rest) t h))
 
+-- no more records are worked through than are there
 there-whole : (part n : ℕ) (s : List ℕ) → min n (records part s) * recordSize part ≤ length s
 there-whole part n s = le-trans (mul-le-mul-right (recordSize part) (min-le-right n (records part s))) (div-mul-le-self (length s) (recordSize part))
 
-pub any-cutting-from : (part : ℕ) (r : Run) (steps : List Step) → length (through part r steps .rest) < recordSize part → textThrough part r steps ++ ending (through part r steps) ≡ output-of part r (wholeInput steps)
+-- in any steps, to where no whole record is left
+pub any-cutting-from : (part : ℕ) (r : Run) (steps : List Step) → length (through part r steps .rest) < recordSize part → textThrough part r steps ++ ending (through part r steps) ≡ outputFrom part r (wholeInput steps)
 any-cutting-from part r [] h =
     ap (closing (r .lines) (r .refused)) (sym (no-record part (r .cells) (r .rest) h) ∙ ap (linesFrom part (r .cells)) (sym (append-nil (r .rest))))
 any-cutting-from part r (more s ∷ steps) h =

@@ -17,6 +17,7 @@ linesFrom part cells s = linesOf part (records part s) cells s ++ lastLine (drop
 
 -- ---- lists of lines
 
+-- a line for each record
 pub length-lines : (part n : ℕ) (cells s : List ℕ) → length (linesOf part n cells s) ≡ n
 length-lines part zero cells s = refl
 length-lines part (suc n) cells s = ap suc (length-lines part n (recordCells part cells (take (recordSize part) s)) (drop (recordSize part) s))
@@ -35,6 +36,7 @@ numbered-append before (l ∷ ls) ms =
 
 -- ---- records that come first
 
+-- a whole record is one record more
 one-more : (part : ℕ) (s t : List ℕ) → recordSize part ≤ length s → records part (s ++ t) ≡ suc (records part (drop (recordSize part) s ++ t))
 one-more part s t h =
     let whole : length (s ++ t) ≡ length s + length t = length-append s t in
@@ -43,6 +45,7 @@ one-more part s t h =
     let sum : length (s ++ t) ≡ length (drop (recordSize part) s ++ t) + recordSize part = omega arith in
     ap (λ (n : ℕ). n / recordSize part) sum ∙ add-div-right (length (drop (recordSize part) s ++ t)) (omega arith) ∙ omega arith
 
+-- its line, and then the lines of what is after it
 record-first : (part : ℕ) (cells s t : List ℕ) → recordSize part ≤ length s
     → linesFrom part cells (s ++ t) ≡ recordLine part cells (take (recordSize part) s) ∷ linesFrom part (recordCells part cells (take (recordSize part) s)) (drop (recordSize part) s ++ t)
 record-first part cells s t h =
@@ -51,11 +54,11 @@ record-first part cells s t h =
     let sum : suc n * size ≡ size + n * size = suc-mul n size ∙ add-comm (n * size) size in
     ap (λ (m : ℕ). linesOf part m cells (s ++ t) ++ lastLine (drop (m * size) (s ++ t))) (one-more part s t h)
     ∙ ap (λ (x : List ℕ). linesOf part (suc n) cells (s ++ t) ++ lastLine x)
-        (ap (λ (m : ℕ). drop m (s ++ t)) sum ∙ sym (drop-drop (n * size) size (s ++ t)))
+    (ap (λ (m : ℕ). drop m (s ++ t)) sum ∙ sym (drop-drop (n * size) size (s ++ t)))
     ∙ ap (λ (x : List ℕ). recordLine part cells x ∷ (linesOf part n (recordCells part cells x) (drop size (s ++ t)) ++ lastLine (drop (n * size) (drop size (s ++ t))))) (take-append-le size s t h)
     ∙ ap (λ (x : List ℕ). recordLine part cells (take size s) ∷ (linesOf part n (recordCells part cells (take size s)) x ++ lastLine (drop (n * size) x))) (drop-append-le size s t h)
 
--- whatever comes after them
+-- so many records of the input that is there, whatever comes after it
 pub records-first : (part n : ℕ) (cells s t : List ℕ) → n * recordSize part ≤ length s
     → linesFrom part cells (s ++ t) ≡ linesOf part n cells s ++ linesFrom part (cellsThrough part n cells s) (drop (n * recordSize part) s ++ t)
 records-first part zero cells s t h = ap (λ (m : ℕ). linesFrom part cells (drop m s ++ t)) (sym (zero-mul (recordSize part)))
@@ -67,7 +70,7 @@ records-first part (suc n) cells s t h =
     record-first part cells s t (omega arith)
     ∙ ap (λ (ls : List Line). recordLine part cells x ∷ ls) (records-first part n (recordCells part cells x) (drop size s) t (omega arith))
     ∙ ap (λ (y : List ℕ). linesOf part (suc n) cells s ++ linesFrom part (cellsThrough part (suc n) cells s) (y ++ t))
-        (drop-drop (n * size) size s ∙ ap (λ (m : ℕ). drop m s) (add-comm size (n * size) ∙ sym sum))
+    (drop-drop (n * size) size s ∙ ap (λ (m : ℕ). drop m s) (add-comm size (n * size) ∙ sym sum))
 
 -- with fewer bytes than a record's there is a short last piece, or nothing
 pub no-record : (part : ℕ) (cells s : List ℕ) → length s < recordSize part → linesFrom part cells s ≡ lastLine s
