@@ -1,5 +1,5 @@
+pub mod Cutting
 pub mod Datasets
 pub mod Examples
-pub mod Lines
-pub mod Cutting
 pub mod Laws
+pub mod Lines
