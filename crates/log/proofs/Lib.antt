@@ -1,1 +1,4 @@
 pub mod Examples
+pub mod Decimals
+pub mod Laying
+pub mod Spelling

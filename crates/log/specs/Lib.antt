@@ -1,4 +1,5 @@
 pub mod Decimal
+pub mod Laid
 pub mod Record
 pub mod Line
 pub mod Output

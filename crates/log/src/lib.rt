@@ -1,1 +1,2 @@
 // A night's log: its records, and the line that is printed of each.
+pub mod decimal;
