@@ -70,13 +70,13 @@ pub record Counted (n k rest : ℕ) : Type 0 where
   pub sum : k + length (decimal rest) ≡ suc (length (decimal n))
 
 pub counted-start : (n : ℕ) → Counted n 1 n
-counted-start n = record { some = omega arith; sum = omega arith; }
+counted-start n = record { some = omega arith; sum = omega arith }
 
 pub counted-few : {n k rest : ℕ} → n < 2 ^ 64 → Counted n k rest → k ≤ 20
 counted-few {n} {k} {rest} h p = omega (arith, length-twenty n h, length-some rest, p .sum)
 
 pub counted-more : {n k rest : ℕ} → Counted n k rest → 10 ≤ rest → Counted n (k + 1) (rest / 10)
-counted-more {n} {k} {rest} p h = record { some = omega arith; sum = omega (arith, length-more rest h, p .sum); }
+counted-more {n} {k} {rest} p h = record { some = omega arith; sum = omega (arith, length-more rest h, p .sum) }
 
 pub counted-all : {n k rest : ℕ} → Counted n k rest → rest < 10 → k ≡ length (decimal n)
 counted-all {n} {k} {rest} p h = omega (arith, length-one rest h, p .sum)

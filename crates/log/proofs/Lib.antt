@@ -2,3 +2,4 @@ pub mod Examples
 pub mod Decimals
 pub mod Laying
 pub mod Spelling
+pub mod Records

@@ -19,7 +19,7 @@ pub record Spelled (d : List ℕ) (at n : ℕ) (out : List ℕ) (i rest : ℕ) :
   pub room : at + length (decimal n) ≤ length d
 
 pub spelled-start : (d : List ℕ) (at k n : ℕ) → k ≡ length (decimal n) → at + k ≤ length d → Spelled d at n d k n
-spelled-start d at k n e h = record { after = []; whole = sym (append-nil (decimal n)); size = e; done = sym (over-nothing d (at + k)); room = omega arith; }
+spelled-start d at k n e h = record { after = []; whole = sym (append-nil (decimal n)); size = e; done = sym (over-nothing d (at + k)); room = omega arith }
 
 module _ {d : List ℕ} {at n : ℕ} {out : List ℕ} {i rest : ℕ} (p : Spelled d at n out i rest) where
   sizes : length (decimal n) ≡ i + length (p .after)
