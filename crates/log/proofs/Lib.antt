@@ -1,5 +1,9 @@
 pub mod Cutting
 pub mod Datasets
+pub mod Decimals
 pub mod Examples
 pub mod Laws
+pub mod Laying
 pub mod Lines
+pub mod Records
+pub mod Spelling

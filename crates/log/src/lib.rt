@@ -1,1 +1,3 @@
 // A night's log: its records, and the line that is printed of each.
+pub mod decimal;
+pub mod record;

@@ -1,0 +1,59 @@
+// Numbers and bytes, printed.
+ghost use mathlib.Core.Path.{_≡_};
+ghost use mathlib.Core.List.{[], _∷_};
+ghost use Prim.Native.Nat.{_+_, _≤_};
+ghost use lib.ListN.{length};
+ghost use Rattle.log.specs.Decimal as Decimal;
+ghost use Rattle.log.specs.Laid.{over, laid};
+
+// How many decimal digits a number has.
+fn places(n: u64) -> usize
+    ensures { λ r. ⌜ (r ≡ length (Decimal.decimal n)) × (1 ≤ r) × (r ≤ 20) ⌝ }
+{
+    let mut k = 1;
+    let mut rest = n;
+    while 10 <= rest {
+        rest /= 10;
+        k += 1;
+    }
+    k
+}
+
+// Lays a number's `k` digits over those of `out` from a place on, the last one first.
+fn spell(out: &mut [u8], at: usize, k: usize, n: u64)
+    requires { ⌜ (k ≡ length (Decimal.decimal n)) × (at + k ≤ length (now out)) ⌝ }
+    ensures { λ _. ⌜ now (out .exit) ≡ over (now (out .entry)) at (Decimal.decimal n) ⌝ }
+{
+    let mut i = k;
+    let mut rest = n;
+    while 10 <= rest {
+        i -= 1;
+        out[at + i] = 48 + (rest % 10) as u8;
+        rest /= 10;
+    }
+    out[at] = 48 + rest as u8;
+}
+
+// Puts a number's decimal digits at an index, where they fit, and answers how many there are.
+pub fn put_decimal(out: &mut [u8], at: usize, n: u64) -> usize
+    ensures { λ r. ⌜ (r ≡ length (Decimal.decimal n)) × (r ≤ 20) × (now (out .exit) ≡ laid (now (out .entry)) at (Decimal.decimal n)) ⌝ }
+{
+    let k = places(n);
+    if out.len() < k {
+        return k;
+    }
+    if out.len() - k < at {
+        return k;
+    }
+    spell(out, at, k, n);
+    k
+}
+
+// Puts one byte at an index, where that is inside.
+pub fn put_byte(out: &mut [u8], at: usize, b: u8)
+    ensures { λ _. ⌜ now (out .exit) ≡ laid (now (out .entry)) at (b ∷ []) ⌝ }
+{
+    if at < out.len() {
+        out[at] = b;
+    }
+}
