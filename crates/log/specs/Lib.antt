@@ -4,6 +4,7 @@ pub mod Laid
 pub mod Record
 pub mod Line
 pub mod Output
+pub mod Block
 pub mod Cutting
 pub mod Laws
 pub mod Examples

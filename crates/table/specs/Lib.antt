@@ -1,5 +1,6 @@
 pub mod Handed
 pub mod Judged
+pub mod Lines
 pub mod Outcome
 pub mod Place
 pub mod Query

@@ -2,6 +2,7 @@
 // slice of cells is refused with 9, and stays as it is.
 mod hand;
 mod judge;
+mod line;
 pub mod offering;
 mod place;
 pub mod query;
