@@ -1,6 +1,8 @@
 pub mod Handed
 pub mod Judged
 pub mod Lines
+pub mod LogBlock
+pub mod LogLine
 pub mod Outcome
 pub mod Place
 pub mod Query

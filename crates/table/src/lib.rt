@@ -1,5 +1,6 @@
 // The port table of one hub in 448 cells that the caller lends, and values read by it. Any other
 // slice of cells is refused with 9, and stays as it is.
+pub mod block;
 mod hand;
 mod judge;
 mod line;

@@ -80,7 +80,7 @@ pub(crate) fn offer_sound(table: &mut [u32], message: &[u8], way: Way) -> Outcom
 }
 
 // A message that reading accepts, with so many bytes from the fourth on.
-fn offer_effect(table: &mut [u32], e: Effect, count: usize) -> Outcome
+pub(crate) fn offer_effect(table: &mut [u32], e: Effect, count: usize) -> Outcome
     requires { ⌜ (sound (now table) ≡ true) × (effectFits (told e) ≡ true) ⌝ }
     ensures { λ r. ⌜ (outcomeOf r ≡ saidBy (verdictBy (now (table .entry)) e count)) × (now (table .exit) ≡ appliedTo (now (table .entry)) (verdictBy (now (table .entry)) e count)) ⌝ }
 {
