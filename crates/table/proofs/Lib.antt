@@ -1,6 +1,7 @@
 pub mod Blocks
 pub mod Changes
 pub mod Lifts
+pub mod Lines
 pub mod Numbers
 pub mod Offers
 pub mod Places
