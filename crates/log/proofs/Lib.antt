@@ -3,3 +3,4 @@ pub mod Decimals
 pub mod Laying
 pub mod Spelling
 pub mod Records
+pub mod Endings

@@ -4,5 +4,6 @@ pub mod Record
 pub mod Line
 pub mod Output
 pub mod Cutting
+pub mod Ending
 pub mod Laws
 pub mod Examples
