@@ -1,21 +1,20 @@
 -- What is printed at the end of the input.
-use Prim.Native.Nat.{ℕ, suc, _+_, _-_, _≤_, _<_}
+use Prim.Native.Nat.{ℕ, suc, _+_, _≤_, _<_}
 use native.Mathlib.Nat.{add-zero}
 use native.Mathlib.Numerals.{add-one}
 use native.Mathlib.Omega.{arith}
 use mathlib.Core.Path.{_≡_, refl, sym, _∙_, ap, ap₂}
 use mathlib.Core.Bool.{Bool, true, false, cond, not, _&&_, _||_}
 use mathlib.Core.List.{List, [], _∷_, _++_, append-assoc, append-nil}
-use lib.Dec.{eqb, ltb, eqb·suc-zero}
+use lib.Dec.{eqb, eqb·suc-zero}
 use lib.ListN.{length, length-append}
 use borrow.Author.Tests.{lt-ltb, le-ltb, eq-eqb, ne-eqb}
-use Rattle.log.specs.Decimal.{decimal, newline}
+use Rattle.log.specs.Decimal.{decimal}
 use Rattle.log.specs.Line as Line
 use Rattle.log.specs.Output.{lastLine, numbered, totalText, refusedAmong}
 use Rattle.log.specs.Laid.{over, laid}
-use Rattle.log.specs.Cutting.{Run, ending}
 use Rattle.log.specs.Ending.{endingText, mostCount, endingIn, EndingOfRun}
-use Rattle.log.proofs.Laying.{Filled, filled-none, filled-more, laid-over, over-nothing, over-over}
+use Rattle.log.proofs.Laying.{filled-none, filled-more, laid-over, over-nothing, over-over}
 
 -- ---- the ending of a run
 
