@@ -3,12 +3,11 @@ use Prim.Native.Nat.{ℕ, suc, _+_, _≤_, _<_}
 use native.Mathlib.Nat.{add-zero}
 use native.Mathlib.Numerals.{add-one}
 use native.Mathlib.Omega.{arith}
-use mathlib.Core.Path.{_≡_, refl, sym, _∙_, ap}
-use mathlib.Core.Bool.{Bool, true, false, cond}
+use mathlib.Core.Path.{_≡_, sym, _∙_, ap}
+use mathlib.Core.Bool.{Bool, cond}
 use mathlib.Core.List.{List, [], _∷_, _++_, append-assoc, append-nil}
-use lib.Dec.{leb}
-use lib.ListN.{length, set, take, drop, length-append, length-drop, take-append-drop}
-use lib.Seq.{set-split, take-at, drop-at, take-append-le, take-take, drop-drop, length-take-le}
+use lib.ListN.{length, getD, set, take, drop, length-append, length-drop, take-append-drop}
+use lib.Seq.{set-split, take-suc, take-at, drop-at, take-append-le, take-take, take-all, drop-drop, length-take-le}
 use borrow.Author.Tests.{le-leb, lt-leb}
 use Rattle.log.specs.Laid.{over, laid}
 
@@ -66,3 +65,56 @@ laid-byte d at b h = ap (λ (l : List ℕ). set l at b) (sym (over-nothing d (su
 
 pub laid-no-byte : (d : List ℕ) (at b : ℕ) → length d ≤ at → d ≡ laid d at (b ∷ [])
 laid-no-byte d at b h = sym (laid-not d at (b ∷ []) (omega arith))
+
+-- ---- a text laid from an index on, and the index after it
+
+pub record Filled (d : List ℕ) (at : ℕ) (s out : List ℕ) (end : ℕ) : Type 0 where
+  pub done : out ≡ over d at s
+  pub place : end ≡ at + length s
+  pub room : end ≤ length d
+
+pub filled-none : (d : List ℕ) (at : ℕ) → at ≤ length d → Filled d at [] d at
+filled-none d at h = record { done = sym (over-nothing d at); place = sym (add-zero at); room = h }
+
+module _ {d : List ℕ} {at : ℕ} {s out : List ℕ} {end : ℕ} (p : Filled d at s out end) where
+  pub filled-length : length out ≡ length d
+  filled-length = ap length (p .done) ∙ over-length d at s (omega (arith, p .place, p .room))
+
+  -- more after it
+  pub filled-more : (t : List ℕ) {next : List ℕ} {stop : ℕ} → next ≡ laid out end t → stop ≡ end + length t → stop ≤ length d → Filled d at (s ++ t) next stop
+  filled-more t {next} {stop} e q h =
+      record {
+        done =
+            e ∙ laid-over out end t (omega (arith, filled-length)) ∙ ap (λ (l : List ℕ). over l end t) (p .done) ∙ ap (λ (k : ℕ). over (over d at s) k t) (p .place)
+            ∙ over-over d at s t (omega (arith, p .place, p .room));
+        place = omega (arith, p .place, length-append s t);
+        room = h;
+      }
+
+-- ---- bytes copied one by one: so many are laid
+
+pub record Copied (d : List ℕ) (at : ℕ) (s out : List ℕ) (i : ℕ) : Type 0 where
+  pub inside : i ≤ length s
+  pub filled : Filled d at (take i s) out (at + i)
+  pub whole : at + length s ≤ length d
+
+pub copied-none : (d : List ℕ) (at : ℕ) (s : List ℕ) → at + length s ≤ length d → Copied d at s d 0
+copied-none d at s h = record { inside = omega arith; filled = rw (add-zero at) (filled-none d at (omega arith)); whole = h }
+
+module _ {d : List ℕ} {at : ℕ} {s out : List ℕ} {i : ℕ} (p : Copied d at s out i) where
+  pub copied-room : i < length s → at + i < length out
+  copied-room h = omega (arith, p .whole, filled-length (p .filled))
+
+  pub copied-one : i < length s → Copied d at s (set out (at + i) (getD s i 0)) (i + 1)
+  copied-one h =
+      let b : ℕ = getD s i 0 in
+      let long : length out ≡ length d = filled-length (p .filled) in
+      let more : take (i + 1) s ≡ take i s ++ (b ∷ []) = ap (λ (k : ℕ). take k s) (add-one i) ∙ take-suc s i 0 h in
+      record {
+        inside = omega arith;
+        filled = rw more (filled-more (p .filled) (b ∷ []) (laid-byte out (at + i) b (omega (arith, p .whole))) (omega arith) (omega (arith, p .whole)));
+        whole = p .whole;
+      }
+
+  pub copied-all : length s ≤ i → out ≡ over d at s
+  copied-all h = p .filled .done ∙ ap (over d at) (take-all i s h)

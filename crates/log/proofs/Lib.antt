@@ -1,6 +1,7 @@
 pub mod Cutting
 pub mod Datasets
 pub mod Decimals
+pub mod Endings
 pub mod Examples
 pub mod Laws
 pub mod Laying

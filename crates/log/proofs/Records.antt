@@ -1,18 +1,17 @@
 -- The parts of a record, and its tests.
-use Prim.Native.Nat.{ℕ, suc, _+_, _≤_, _<_}
+use Prim.Native.Nat.{ℕ, _+_, _-_, _≤_, _<_}
 use native.Mathlib.Numerals.{add-one}
 use native.Mathlib.Omega.{arith}
-use mathlib.Core.Path.{_≡_, refl, sym, _∙_, ap, ap₂}
+use mathlib.Core.Path.{_≡_, refl, sym, _∙_, ap}
 use mathlib.Core.Bool.{Bool, true, false, cond, not, _&&_, _||_}
-use mathlib.Core.List.{List, [], _∷_}
+use mathlib.Core.List.{List, _∷_}
 use mathlib.Core.Logic.{⊎-elim}
 use lib.Bits.{bitAnd, bitOr, or-zero-l, or-add-and, and-le-r}
 use lib.Dec.{eqb, leb}
-use lib.ListN.{length, getD, take, drop, drop-of-length-le, List·getD-eq-default}
-use lib.Seq.{drop-cons, drop-drop}
+use lib.ListN.{length, getD, take, drop, length-drop, drop-of-length-le, List·getD-eq-default}
+use lib.Seq.{drop-cons, drop-drop, take-all}
 use borrow.Author.Tests.{eqb-true, eqb-false, ne-eqb, eq-eqb, le-leb, lt-leb}
 use Rattle.protocol.proofs.Tests.{which}
-use Rattle.protocol.specs.declared.Way.{Way}
 use Rattle.protocol.specs.declared.Way.the-variants.{Down, Up}
 use Rattle.log.specs.Record.{front, recordSize, messageSize, messageIn, malformed, allZero, wayOf}
 
@@ -121,7 +120,8 @@ module _ (part : ℕ) (s : List ℕ) where
   pub wrong-zeros : length s ≡ recordSize part → getD s 4 0 ≤ 1 → zeros ≡ false → true ≡ malformed part s
   wrong-zeros h w z = sym (right-way h w ∙ ap (λ (t : Bool). failing true true t ended) z)
 
-  pub by-end : (n : ℕ) → length s ≡ recordSize part → getD s 4 0 ≤ 1 → zeros ≡ true → n ≡ messageSize part s → not (allZero (drop (front + n) s)) ≡ malformed part s
+  pub by-end : (n : ℕ) → length s ≡ recordSize part → getD s 4 0 ≤ 1 → zeros ≡ true → n ≡ messageSize part s → not (allZero (take (recordSize part - (front + n)) (drop (front + n) s))) ≡ malformed part s
   by-end n h w z e =
-      ap (λ (l : List ℕ). not (allZero l)) (sym (drop-drop n front s)) ∙ ap (λ (k : ℕ). not (allZero (drop k (drop front s)))) e
-      ∙ sym (right-way h w ∙ ap (λ (t : Bool). failing true true t ended) z)
+      let short : length (drop (front + n) s) ≤ recordSize part - (front + n) = rw (length-drop (front + n) s) (omega arith) in
+      ap (λ (l : List ℕ). not (allZero l)) (take-all (recordSize part - (front + n)) (drop (front + n) s) short ∙ sym (drop-drop n front s))
+      ∙ ap (λ (k : ℕ). not (allZero (drop k (drop front s)))) e ∙ sym (right-way h w ∙ ap (λ (t : Bool). failing true true t ended) z)

@@ -6,5 +6,6 @@ pub mod Line
 pub mod Output
 pub mod Block
 pub mod Cutting
+pub mod Ending
 pub mod Laws
 pub mod Examples

@@ -1,4 +1,4 @@
-// Numbers and bytes, printed.
+// Numbers and bytes, put into an output.
 ghost use mathlib.Core.Path.{_≡_};
 ghost use mathlib.Core.List.{[], _∷_};
 ghost use Prim.Native.Nat.{_+_, _≤_};
@@ -56,4 +56,29 @@ pub fn put_byte(out: &mut [u8], at: usize, b: u8)
     if at < out.len() {
         out[at] = b;
     }
+}
+
+// Lays bytes over those of `out` from a place on.
+fn copy(out: &mut [u8], at: usize, bytes: &[u8])
+    requires { ⌜ at + length (now bytes) ≤ length (now out) ⌝ }
+    ensures { λ _. ⌜ now (out .exit) ≡ over (now (out .entry)) at (now (bytes .entry)) ⌝ }
+{
+    let mut i = 0;
+    while i < bytes.len() {
+        out[at + i] = bytes[i];
+        i += 1;
+    }
+}
+
+// Puts bytes at an index, where they fit.
+pub fn put_bytes(out: &mut [u8], at: usize, bytes: &[u8])
+    ensures { λ _. ⌜ now (out .exit) ≡ laid (now (out .entry)) at (now (bytes .entry)) ⌝ }
+{
+    if out.len() < bytes.len() {
+        return;
+    }
+    if out.len() - bytes.len() < at {
+        return;
+    }
+    copy(out, at, bytes);
 }

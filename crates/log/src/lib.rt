@@ -1,3 +1,4 @@
 // A night's log: its records, and the line that is printed of each.
 pub mod decimal;
 pub mod record;
+pub mod totals;

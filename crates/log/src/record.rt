@@ -64,7 +64,7 @@ pub fn is_malformed(s: &[u8]) -> bool
     if !all_zero(&s[5..FRONT]) {
         return true;
     }
-    !all_zero(tail(s, FRONT + message_size(s)))
+    !all_zero(&s[FRONT + message_size(s)..FRONT + PART])
 }
 
 // The direction of a record; 0 stands in for a missing byte.

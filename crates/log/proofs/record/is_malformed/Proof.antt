@@ -1,10 +1,8 @@
-use Prim.Native.Nat.{ℕ}
+use native.Mathlib.Omega.{arith}
 use mathlib.Core.Path.{sym, _∙_, ap}
-use mathlib.Core.Bool.{Bool, not}
-use mathlib.Core.List.{List}
+use mathlib.Core.Bool.{not}
 use borrow.Author.Needs.{needs}
 use borrow.Author.Tests.{not-true, not-false}
-use Rattle.log.specs.Record.{allZero}
 use Rattle.log.proofs.Records.{wrong-size, wrong-way, wrong-zeros, by-end}
 use Rattle.log.proofs.record.is_malformed.Statement.{statement}
 use Rattle.log.proofs.record.is_malformed.Tie as tie
@@ -41,18 +39,27 @@ returns-3 c =
 message-size-requires : tie.Need-message-size-requires
 message-size-requires c κs = search needs
 
-add-tail : tie.Need-add-tail
-add-tail c = search needs
+add-all-zero : tie.Need-add-all-zero
+add-all-zero c = search needs
 
-tail-requires : tie.Need-tail-requires
-tail-requires c κs = search needs
+add-all-zero-2 : tie.Need-add-all-zero-2
+add-all-zero-2 c = search needs
+
+sub-all-zero-2 : tie.Need-sub-all-zero-2
+sub-all-zero-2 c = omega (arith, c .message-size .ensures .1)
+
+part-all-zero-start-2 : tie.Need-part-all-zero-start-2
+part-all-zero-start-2 c = search needs
+
+part-all-zero-end-2 : tie.Need-part-all-zero-end-2
+part-all-zero-end-2 c = search needs
 
 all-zero-requires-2 : tie.Need-all-zero-requires-2
 all-zero-requires-2 c κs = search needs
 
 returns-4 : tie.Need-returns-4
 returns-4 c =
-    ap not (c .all-zero2 .ensures) ∙ ap (λ (l : List ℕ). not (allZero l)) (c .before .tail .ensures)
+    ap not (c .all-zero2 .ensures)
     ∙ by-end 128 (c .before .before .before .before .before .before .before .before .before .before .args .s .now) (c .before .before .message-size .result)
     (c .before .before .before .before .before .before .before .before .if1 .left)
     (c .before .before .before .before .before .before .if2 .left)
@@ -73,7 +80,10 @@ is-malformed-spec =
     all-zero-requires
     returns-3
     message-size-requires
-    add-tail
-    tail-requires
+    add-all-zero
+    add-all-zero-2
+    sub-all-zero-2
+    part-all-zero-start-2
+    part-all-zero-end-2
     all-zero-requires-2
     returns-4)
