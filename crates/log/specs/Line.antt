@@ -48,7 +48,7 @@ valueLine hand = withNumbers (hand 0) (numbersFrom 16 hand 0)
 
 -- ---- the line of a record
 
-abbrev acceptedLine : (ℕ → Handed) → Effect → Line
+abbrev pub acceptedLine : (ℕ → Handed) → Effect → Line
 acceptedLine hand nothing = accepted
 acceptedLine hand (names port) = accepted
 acceptedLine hand (attach port device) = accepted

@@ -83,12 +83,12 @@ Bytes-reverse [] b = tt
 Bytes-reverse (x ∷ xs) (h, b) = rw reverse-cons (Bytes-append (reverse xs) (x ∷ []) (Bytes-reverse xs b) (h, tt))
 
 -- parts of bytes are bytes
-Bytes-take : (w : ℕ) (s : List ℕ) → Bytes s → Bytes (take w s)
+pub Bytes-take : (w : ℕ) (s : List ℕ) → Bytes s → Bytes (take w s)
 Bytes-take zero s b = tt
 Bytes-take (suc w) [] b = tt
 Bytes-take (suc w) (x ∷ s) (h, b) = (h, Bytes-take w s b)
 
-Bytes-drop : (n : ℕ) (s : List ℕ) → Bytes s → Bytes (drop n s)
+pub Bytes-drop : (n : ℕ) (s : List ℕ) → Bytes s → Bytes (drop n s)
 Bytes-drop zero s b = b
 Bytes-drop (suc n) [] b = tt
 Bytes-drop (suc n) (x ∷ s) (h, b) = Bytes-drop n s b

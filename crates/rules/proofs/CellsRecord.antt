@@ -59,7 +59,7 @@ mode-cell formats from zero m high = rw (high (from + m) (omega arith))
 mode-cell formats from (suc n) zero high = rw add-zero
 mode-cell formats from (suc n) (suc m) high = mode-cell formats (suc from) n m (λ k h. high k (omega arith)) ∙ rw (suc-add, add-suc)
 
-mode-fits : (n : ℕ) (formats : ℕ → Option Format) → formatsFit n formats ≡ true → (m : ℕ) → m < n → formatFits (formats m) ≡ true
+pub mode-fits : (n : ℕ) (formats : ℕ → Option Format) → formatsFit n formats ≡ true → (m : ℕ) → m < n → formatFits (formats m) ≡ true
 mode-fits zero formats e m h = absurd (omega arith)
 mode-fits (suc n) formats e m h =
     ⊎-elim

@@ -2,6 +2,8 @@ pub mod Blocks
 pub mod Changes
 pub mod Lifts
 pub mod Lines
+pub mod LogBlocks
+pub mod LogLines
 pub mod Numbers
 pub mod Offers
 pub mod Places
