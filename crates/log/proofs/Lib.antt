@@ -6,5 +6,6 @@ pub mod Examples
 pub mod Laws
 pub mod Laying
 pub mod Lines
+pub mod OneMore
 pub mod Records
 pub mod Spelling

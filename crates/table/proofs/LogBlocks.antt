@@ -1,14 +1,29 @@
 -- Working through a block, record by record.
 use Prim.Native.Nat.{ℕ, zero, suc, _+_, _*_, _-_, _≤_, _<_}
 use native.Mathlib.Omega.{arith}
-use mathlib.Core.Path.{_≡_, refl, sym, _∙_, ap}
+use mathlib.Core.Path.{_≡_, refl, sym, _∙_, ap, subst}
 use mathlib.Core.Bool.{Bool, true, false, cond, not, _&&_}
 use mathlib.Core.List.{List, [], _∷_, _++_}
 use mathlib.Core.Logic.{⊎-elim}
-use borrow.Author.Tests.{lt-ltb, le-ltb, eqb-true, eqb-false}
-use lib.Dec.{eqb, ltb}
-use Rattle.protocol.proofs.Tests.{which}
-use Rattle.log.specs.Block.{mostLines}
+use borrow.Author.Tests.{lt-ltb, le-ltb, eqb-true, eqb-false, leb-true, ltb-true, ltb-false}
+use lib.Dec.{eqb, leb, ltb}
+use lib.ListN.{length, getD, take, drop, length-append, length-take, length-drop, List·getD-eq-default}
+use lib.Seq.{getD-take, getD-drop}
+use Rattle.protocol.proofs.Tests.{which, and-left, and-right}
+use Rattle.rules.specs.Cells.{sound}
+use Rattle.rules.specs.Offer.{cellsAfter}
+use Rattle.rules.proofs.Laws.{step-keeps-sound}
+use Rattle.log.specs.Decimal.{lineText}
+use Rattle.log.specs.Record.{entryOf, malformed, messageIn}
+use Rattle.log.specs.Line.{Line, recordLine, recordCells, refusalOf, numbersOf}
+use Rattle.log.specs.Laid.{over}
+use Rattle.log.specs.Cutting.{Run, worked, printed}
+use Rattle.log.specs.Block.{lineRoom, mostLines, goesOn, recordsIn, blockRecords}
+use Rattle.log.proofs.Laying.{over-nothing, over-length, over-over}
+use Rattle.log.proofs.OneMore.{nextRecord, nextLine, cells-next, lines-next, refused-next, text-next, takes-more, takes-none, run-next, printed-one}
+use Rattle.table.specs.LogBlock.{done, doneBy}
+use Rattle.table.specs.LogLine.{PrintedAs}
+use Rattle.table.proofs.LogLines.{message-bytes}
 
 -- ---- four tests in a row
 
@@ -36,3 +51,162 @@ by-most n h =
     (λ (x : eqb n 18446744073709551615 ≡ true). ap not x ∙ sym (is-most n (eqb-true n 18446744073709551615 x)))
     (λ (x : eqb n 18446744073709551615 ≡ false). ap not x ∙ sym (not-most n h (eqb-false n 18446744073709551615 x)))
     (which (eqb n 18446744073709551615))
+
+-- ---- the records that were worked through
+
+pub record Working (r : Run) (out₀ table out : List ℕ) (taken written count bad : ℕ) : Type 0 where
+  pub through : ℕ
+  pub cells : table ≡ worked 128 through r .cells
+  pub good : sound table ≡ true
+  pub text : out ≡ over out₀ 0 (printed 128 through r)
+  pub ends : written ≡ length (printed 128 through r)
+  pub room : written ≤ length out₀
+  pub lines : count ≡ worked 128 through r .lines
+  pub refused : bad ≡ worked 128 through r .refused
+  pub took : taken ≡ through * 136
+  pub there : taken ≤ length (r .rest)
+  pub left : blockRecords 128 r (length out₀) ≡ through + recordsIn 128 (length (r .rest) - through) (worked 128 through r) (length out₀ - written)
+
+pub working-start : (r : Run) (out : List ℕ) → sound (r .cells) ≡ true → Working r out (r .cells) out 0 0 (r .lines) (r .refused)
+unfolding blockRecords
+working-start r out s =
+    let none-lines : r .lines + 0 ≡ r .lines = omega arith in
+    let none-refused : r .refused + 0 ≡ r .refused = omega arith in
+    let all : length (r .rest) - 0 ≡ length (r .rest) = omega arith in
+    let whole-room : length out - 0 ≡ length out = omega arith in
+    let same : worked 128 0 r ≡ r = λ i. record { cells = r .cells; lines = none-lines i; refused = none-refused i; rest = r .rest } in
+    let amount : recordsIn 128 (length (r .rest) - 0) (worked 128 0 r) (length out - 0) ≡ recordsIn 128 (length (r .rest)) r (length out) = λ i. recordsIn 128 (all i) (same i) (whole-room i) in
+    record {
+      through = 0;
+      cells = refl;
+      good = s;
+      text = sym (over-nothing out 0);
+      ends = refl;
+      room = omega arith;
+      lines = sym none-lines;
+      refused = sym none-refused;
+      took = omega arith;
+      there = omega arith;
+      left = omega (arith, amount);
+    }
+
+module _ (r : Run) (out₀ table out : List ℕ) (taken written count bad : ℕ) (k : Working r out₀ table out taken written count bad) where
+  abbrev run : Run
+  run = worked 128 (k .through) r
+
+  pub same-size : length out ≡ length out₀
+  same-size = ap length (k .text) ∙ over-length out₀ 0 (printed 128 (k .through) r) (omega (arith, k .ends, k .room))
+
+  -- what is left of the input
+  rest-is : run .rest ≡ drop taken (r .rest)
+  rest-is = ap (λ (n : ℕ). drop n (r .rest)) (sym (k .took))
+
+  rest-size : length (run .rest) ≡ length (r .rest) - taken
+  rest-size = ap length rest-is ∙ length-drop taken (r .rest)
+
+  pub goes-as : (leb 136 (length (r .rest) - taken) && leb lineRoom (length out - written) && ltb count mostLines && ltb bad mostLines) ≡ goesOn 128 run (length out₀ - written)
+  goes-as = λ i. leb 136 (sym rest-size i) && leb lineRoom (same-size i - written) && ltb (k .lines i) mostLines && ltb (k .refused i) mostLines
+
+  module _ (again : (leb 136 (length (r .rest) - taken) && leb lineRoom (length out - written) && ltb count mostLines && ltb bad mostLines) ≡ true) where
+    tests : (leb 136 (length (r .rest) - taken) ≡ true) × (leb lineRoom (length out - written) ≡ true) × (ltb count mostLines ≡ true) × (ltb bad mostLines ≡ true)
+    tests =
+        let front = and-left (leb 136 (length (r .rest) - taken) && leb lineRoom (length out - written) && ltb count mostLines) (ltb bad mostLines) again in
+        let two = and-left (leb 136 (length (r .rest) - taken) && leb lineRoom (length out - written)) (ltb count mostLines) front in
+        (and-left (leb 136 (length (r .rest) - taken)) (leb lineRoom (length out - written)) two, and-right (leb 136 (length (r .rest) - taken)) (leb lineRoom (length out - written)) two, and-right (leb 136 (length (r .rest) - taken) && leb lineRoom (length out - written)) (ltb count mostLines) front, and-right (leb 136 (length (r .rest) - taken) && leb lineRoom (length out - written) && ltb count mostLines) (ltb bad mostLines) again)
+
+    pub record-there : taken + 136 ≤ length (r .rest)
+    record-there = let h : 136 ≤ length (r .rest) - taken = leb-true 136 (length (r .rest) - taken) (tests .0) in omega arith
+
+    pub room-there : written + 448 ≤ length out
+    room-there = let h : lineRoom ≤ length out - written = leb-true lineRoom (length out - written) (tests .1) in omega arith
+
+    pub count-fits : count < 18446744073709551615
+    count-fits = ltb-true count mostLines (tests .2)
+
+    pub bad-fits : bad < 18446744073709551615
+    bad-fits = ltb-true bad mostLines (tests .3)
+
+    -- the next record
+    pub record-is : take 136 (drop taken (r .rest)) ≡ nextRecord 128 r (k .through)
+    record-is = ap (take 136) (sym rest-is)
+
+    pub working-next : (table' out' : List ℕ) (end counted : ℕ) (s : List ℕ) → s ≡ nextRecord 128 r (k .through) → PrintedAs out out' written (count + 1) (recordLine 128 table s) end counted → table' ≡ recordCells 128 table s → sound table' ≡ true
+        → Working r out₀ table' out' (taken + 136) end (count + 1) (bad + counted)
+    working-next table' out' end counted s is p c g =
+        let d : ℕ = k .through in
+        let line-is : recordLine 128 table s ≡ nextLine 128 r d = λ i. recordLine 128 (k .cells i) (is i) in
+        let q : PrintedAs out out' written (count + 1) (nextLine 128 r d) end counted = subst (λ (l : Line). PrintedAs out out' written (count + 1) l end counted) line-is p in
+        let line : List ℕ = lineText (count + 1) (numbersOf (nextLine 128 r d)) in
+        let numbered-same : lineText (worked 128 d r .lines + 1) (numbersOf (nextLine 128 r d)) ≡ line = ap (λ (n : ℕ). lineText (n + 1) (numbersOf (nextLine 128 r d))) (sym (k .lines)) in
+        let whole-text : printed 128 (suc d) r ≡ printed 128 d r ++ line = text-next 128 r d ∙ ap (λ (t : List ℕ). printed 128 d r ++ t) numbered-same in
+        let whole-length : length (printed 128 (suc d) r) ≡ length (printed 128 d r) + length line = ap length whole-text ∙ length-append (printed 128 d r) line in
+        let one-length : length (printed 128 1 (worked 128 d r)) ≡ length line = ap length (printed-one 128 r d ∙ numbered-same) in
+        let size : d * 136 + 136 ≡ suc d * 136 = omega arith in
+        let at-is : written ≡ 0 + length (printed 128 d r) = omega (arith, k .ends) in
+        let more-left : length (r .rest) - d ≡ suc (length (r .rest) - suc d) = omega (arith, k .took, record-there) in
+        let takes : recordsIn 128 (length (r .rest) - d) (worked 128 d r) (length out₀ - written) ≡ suc (recordsIn 128 (length (r .rest) - suc d) (worked 128 (suc d) r) (length out₀ - end)) =
+        ap (λ (n : ℕ). recordsIn 128 n (worked 128 d r) (length out₀ - written)) more-left
+        ∙ takes-more 128 r d (length (r .rest) - suc d) (length out₀ - written) (sym goes-as ∙ again)
+        ∙ (let room-left : length out₀ - written - length (printed 128 1 (worked 128 d r)) ≡ length out₀ - end = omega (arith, q .ends, one-length) in
+        λ i. suc (recordsIn 128 (length (r .rest) - suc d) (run-next 128 r d i) (room-left i)))
+        in
+        record {
+          through = suc d;
+          cells = c ∙ (λ i. recordCells 128 (k .cells i) (is i)) ∙ sym (cells-next 128 r d);
+          good = g;
+          text =
+              q .text
+              ∙ (λ i. over (k .text i) (at-is i) line)
+              ∙ over-over out₀ 0 (printed 128 d r) line (omega (arith, k .ends, k .room))
+              ∙ ap (over out₀ 0) (sym whole-text);
+          ends = omega (arith, q .ends, k .ends, whole-length);
+          room = omega (arith, q .most, room-there, same-size);
+          lines = omega (arith, k .lines, lines-next 128 r d);
+          refused = omega (arith, k .refused, q .counted, refused-next 128 r d);
+          took = omega (arith, k .took, size);
+          there = omega (arith, record-there);
+          left = omega (arith, k .left, takes);
+        }
+
+  -- at the end
+  pub all-done : (leb 136 (length (r .rest) - taken) && leb lineRoom (length out - written) && ltb count mostLines && ltb bad mostLines) ≡ false → k .through ≡ blockRecords 128 r (length out₀)
+  all-done stops =
+      let none-more : recordsIn 128 (length (r .rest) - k .through) run (length out₀ - written) ≡ 0 = takes-none 128 run (length (r .rest) - k .through) (length out₀ - written) (sym goes-as ∙ stops) in
+      omega (arith, k .left, none-more)
+
+  abbrev total : ℕ
+  total = blockRecords 128 r (length out₀)
+
+  pub finished : (leb 136 (length (r .rest) - taken) && leb lineRoom (length out - written) && ltb count mostLines && ltb bad mostLines) ≡ false
+      → (done taken written count bad ≡ doneBy 128 r total) × (table ≡ worked 128 total r .cells) × (out ≡ over out₀ 0 (printed 128 total r))
+  finished stops =
+      let is : k .through ≡ total = all-done stops in
+      ((λ i. done (k .took i) (k .ends i) (k .lines i) (k .refused i)) ∙ ap (doneBy 128 r) is, k .cells ∙ ap (λ (n : ℕ). worked 128 n r .cells) is, k .text ∙ ap (λ (n : ℕ). over out₀ 0 (printed 128 n r)) is)
+
+-- every record keeps a sound table sound
+pub record-keeps-sound : (cells s : List ℕ) → ((n : ℕ) → getD s n 0 < 256) → sound cells ≡ true → sound (recordCells 128 cells s) ≡ true
+unfolding recordCells
+record-keeps-sound cells s bytes good = go (malformed 128 s)
+  where
+    go : (b : Bool) → sound (cond b cells (cellsAfter cells (entryOf 128 s))) ≡ true
+    go true = good
+    go false = step-keeps-sound cells (entryOf 128 s) (message-bytes s (messageIn 128 s) refl bytes) good
+
+-- a part of bytes is bytes
+pub part-bytes : (s : List ℕ) (from size n : ℕ) → ((k : ℕ) → getD s k 0 < 256) → getD (take size (drop from s)) n 0 < 256
+part-bytes s from size n h =
+    ⊎-elim
+    (λ (x : ltb n size ≡ true).
+    let is : getD (take size (drop from s)) n 0 ≡ getD s (from + n) 0 = getD-take size (drop from s) n 0 (ltb-true n size x) ∙ getD-drop from s n 0 in
+    omega (arith, is, h (from + n)))
+    (λ (x : ltb n size ≡ false).
+    let none : getD (take size (drop from s)) n 0 ≡ 0 = List·getD-eq-default (take size (drop from s)) 0 (omega (arith, length-take size (drop from s), ltb-false n size x)) in
+    omega (arith, none))
+    (which (ltb n size))
+
+at-most-one : (n : ℕ) (b : Bool) → n ≡ cond b 0 1 → n ≤ 1
+at-most-one n true e = omega arith
+at-most-one n false e = omega arith
+
+pub counts-one : {before after : List ℕ} {at n : ℕ} {l : Line} {end bad : ℕ} → PrintedAs before after at n l end bad → bad ≤ 1
+counts-one {l = l} {bad = bad} p = at-most-one bad (eqb (refusalOf l) 0) (p .counted)
