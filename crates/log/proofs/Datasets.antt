@@ -1,16 +1,16 @@
 -- The datasets of a value in one line: all of its numbers, or 18.
-use Prim.Native.Nat.{ℕ, zero, suc, _+_, _*_, _-_, _≤_, _<_}
+use Prim.Native.Nat.{ℕ, zero, suc, _+_, _-_, _≤_, _<_}
 use native.Mathlib.Omega.{arith}
 use mathlib.Core.Path.{_≡_, refl, sym, _∙_, ap}
 use mathlib.Core.Bool.{Bool, true, false, cond, _&&_}
-use mathlib.Core.List.{List, [], _∷_}
+use mathlib.Core.List.{List, _∷_}
 use mathlib.Core.Option.{Option, none, some}
-use mathlib.Core.Logic.{_⊎_, inl, inr, ⊎-elim}
+use mathlib.Core.Logic.{_⊎_, ⊎-elim}
 use borrow.Author.Tests.{lt-ltb, le-ltb}
-use lib.Dec.{eqb, ltb}
-use lib.Ieee.{Float, binary32, ofBits, toBits}
+use lib.Dec.{eqb}
+use lib.Ieee.{binary32, ofBits, toBits}
 use lib.Ieee.Bits.{toBits-ofBits}
-use Rattle.protocol.specs.Number.{littleEndian, isFinite}
+use Rattle.protocol.specs.Number.{isFinite}
 use Rattle.protocol.proofs.Floats.{not-nan}
 use Rattle.protocol.proofs.Tests.{which, and-left}
 use Rattle.rules.specs.Facts.{Format}
@@ -18,7 +18,7 @@ use Rattle.rules.specs.Judge.{widthOf}
 use Rattle.rules.specs.Value.{Handed, whole, float, datasetOf, handFloat}
 use Rattle.rules.specs.Value as Value
 use Rattle.log.specs.Dataset.{numberAt, numbersAt, finiteFrom}
-use Rattle.log.specs.Line.{Line, refused, values, withNumber, followedBy, numbersFrom, withNumbers, valueLine}
+use Rattle.log.specs.Line.{refused, values, withNumber, followedBy, numbersFrom, withNumbers, valueLine}
 
 module _ (port mode state : ℕ) (f : Format) (bytes : List ℕ) where
   abbrev hands : ℕ → Handed

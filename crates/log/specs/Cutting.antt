@@ -4,7 +4,6 @@ use mathlib.Core.List.{List, [], _∷_, _++_}
 use lib.ListN.{length, drop}
 use Rattle.rules.specs.Cells.{emptyCells}
 use Rattle.log.specs.Record.{recordSize}
-use Rattle.log.specs.Line.{Line}
 use Rattle.log.specs.Output.{linesOf, cellsThrough, records, lastLine, numbered, refusedAmong, totalText}
 
 pub data Step : Type 0 where

@@ -1,9 +1,9 @@
 -- Working through a block, record by record.
-use Prim.Native.Nat.{ℕ, zero, suc, _+_, _*_, _-_, _≤_, _<_}
+use Prim.Native.Nat.{ℕ, suc, _+_, _*_, _-_, _≤_, _<_}
 use native.Mathlib.Omega.{arith}
 use mathlib.Core.Path.{_≡_, refl, sym, _∙_, ap, subst}
 use mathlib.Core.Bool.{Bool, true, false, cond, not, _&&_}
-use mathlib.Core.List.{List, [], _∷_, _++_}
+use mathlib.Core.List.{List, _++_}
 use mathlib.Core.Logic.{⊎-elim}
 use borrow.Author.Tests.{lt-ltb, le-ltb, eqb-true, eqb-false, leb-true, ltb-true, ltb-false}
 use lib.Dec.{eqb, leb, ltb}
@@ -21,7 +21,7 @@ use Rattle.log.specs.Cutting.{Run, worked, printed}
 use Rattle.log.specs.Block.{lineRoom, mostLines, goesOn, recordsIn, blockRecords}
 use Rattle.log.proofs.Laying.{over-nothing, over-length, over-over}
 use Rattle.log.proofs.OneMore.{nextRecord, nextLine, cells-next, lines-next, refused-next, text-next, takes-more, takes-none, run-next, printed-one}
-use Rattle.table.specs.LogBlock.{done, doneBy}
+use Rattle.table.specs.LogBlock.{BlockAnswer, done, doneBy, blockSays, blockCells, blockText}
 use Rattle.table.specs.LogLine.{PrintedAs}
 use Rattle.table.proofs.LogLines.{message-bytes}
 
@@ -210,3 +210,17 @@ at-most-one n false e = omega arith
 
 pub counts-one : {before after : List ℕ} {at n : ℕ} {l : Line} {end bad : ℕ} → PrintedAs before after at n l end bad → bad ≤ 1
 counts-one {l = l} {bad = bad} p = at-most-one bad (eqb (refusalOf l) 0) (p .counted)
+
+-- ---- a table that is sound, and one that isn't
+
+module _ (r : Run) (out : List ℕ) where
+  abbrev taken-there : ℕ
+  taken-there = blockRecords 128 r (length out)
+
+  pub sound-block : sound (r .cells) ≡ true → (blockSays 128 r (length out) ≡ doneBy 128 r taken-there) × (blockCells 128 r (length out) ≡ worked 128 taken-there r .cells) × (blockText 128 r out ≡ over out 0 (printed 128 taken-there r))
+  unfolding blockSays blockCells blockText
+  sound-block s = (rw s, rw s, rw s)
+
+  pub unsound-block : sound (r .cells) ≡ false → (blockSays 128 r (length out) ≡ BlockAnswer.refused 9 0) × (blockCells 128 r (length out) ≡ r .cells) × (blockText 128 r out ≡ out)
+  unfolding blockSays blockCells blockText
+  unsound-block s = (rw s, rw s, rw s)

@@ -11,6 +11,8 @@ mod soundness;
 mod step;
 pub mod value;
 
+use crate::block::Block;
+use crate::block::block_sound;
 use crate::hand::hand_sound;
 use crate::offering::Outcome;
 use crate::offering::offer_sound;
@@ -24,7 +26,9 @@ use crate::value::Dataset;
 use protocol::Way;
 ghost use mathlib.Core.Path.{_≡_};
 ghost use Rattle.rules.specs.Offer.{cellsAfter, handCells, offerCells};
+ghost use lib.ListN.{length};
 ghost use Rattle.table.specs.Handed.{handedOf};
+ghost use Rattle.table.specs.LogBlock.{blockCells, blockOf, blockSays, blockText, runOf};
 ghost use Rattle.table.specs.Outcome.{emptied, emptyingSays, outcomeOf, saidBy};
 ghost use Rattle.table.specs.Query.{formatCells, formatSaid, portCells, portSaid};
 
@@ -89,6 +93,26 @@ pub fn format(table: &[u32], port: u8, mode: u8) -> Format
         return format_of(table, port, mode);
     }
     Format::Refused {
+        number: 9,
+        place: 0,
+    }
+}
+
+// Works through a block of a log: as many whole records as there is room for, each a line of text in
+// the front of `out`, numbered on from `lines`. The table follows the messages.
+pub fn read_block(
+    table: &mut [u32],
+    lines: u64,
+    refused: u64,
+    input: &[u8],
+    out: &mut [u8],
+) -> Block
+    ensures { λ r. ⌜ (blockOf r ≡ blockSays 128 (runOf (now (table .entry)) lines refused (now (input .entry))) (length (now (out .entry)))) × (now (table .exit) ≡ blockCells 128 (runOf (now (table .entry)) lines refused (now (input .entry))) (length (now (out .entry)))) × (now (out .exit) ≡ blockText 128 (runOf (now (table .entry)) lines refused (now (input .entry))) (now (out .entry))) ⌝ }
+{
+    if is_sound(table) {
+        return block_sound(table, lines, refused, input, out);
+    }
+    Block::Refused {
         number: 9,
         place: 0,
     }
