@@ -178,10 +178,10 @@ module _ (r : Run) (out₀ table out : List ℕ) (taken written count bad : ℕ)
   total = blockRecords 128 r (length out₀)
 
   pub finished : (leb 136 (length (r .rest) - taken) && leb lineRoom (length out - written) && ltb count mostLines && ltb bad mostLines) ≡ false
-      → (done taken written count bad ≡ doneBy 128 r total) × (table ≡ worked 128 total r .cells) × (out ≡ over out₀ 0 (printed 128 total r))
+      → (done taken written count bad ≡ doneBy 128 r total) × (table ≡ worked 128 total r .cells) × (out ≡ over out₀ 0 (printed 128 total r)) × ((taken ≤ length (r .rest)) × (written ≤ length out₀))
   finished stops =
       let is : k .through ≡ total = all-done stops in
-      ((λ i. done (k .took i) (k .ends i) (k .lines i) (k .refused i)) ∙ ap (doneBy 128 r) is, k .cells ∙ ap (λ (n : ℕ). worked 128 n r .cells) is, k .text ∙ ap (λ (n : ℕ). over out₀ 0 (printed 128 n r)) is)
+      ((λ i. done (k .took i) (k .ends i) (k .lines i) (k .refused i)) ∙ ap (doneBy 128 r) is, k .cells ∙ ap (λ (n : ℕ). worked 128 n r .cells) is, k .text ∙ ap (λ (n : ℕ). over out₀ 0 (printed 128 n r)) is, (k .there, k .room))
 
 -- every record keeps a sound table sound
 pub record-keeps-sound : (cells s : List ℕ) → ((n : ℕ) → getD s n 0 < 256) → sound cells ≡ true → sound (recordCells 128 cells s) ≡ true

@@ -1,6 +1,6 @@
 -- Working through a block of a log: 9 where the table isn't sound, else how much input was taken and how much text was
 -- written, and the totals.
-use Prim.Native.Nat.{ℕ, _*_}
+use Prim.Native.Nat.{ℕ, _*_, _≤_}
 use mathlib.Core.Bool.{cond}
 use mathlib.Core.List.{List}
 use lib.ListN.{length}
@@ -19,6 +19,11 @@ pub data BlockAnswer : Type 0 where
 abbrev pub blockOf : Block → BlockAnswer
 blockOf (Block'.Refused number place) = refused number place
 blockOf (Block'.Done taken written lines refused′) = done taken written lines refused′
+
+-- it takes no more input than there is, and no more room
+abbrev pub blockFits : Block → ℕ → ℕ → Type 0
+blockFits (Block'.Refused number place) size room = Unit {0}
+blockFits (Block'.Done taken written lines refused′) size room = (taken ≤ size) × (written ≤ room)
 
 -- before the block
 abbrev pub runOf : List ℕ → ℕ → ℕ → List ℕ → Run

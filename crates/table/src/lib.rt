@@ -28,7 +28,7 @@ ghost use mathlib.Core.Path.{_≡_};
 ghost use Rattle.rules.specs.Offer.{cellsAfter, handCells, offerCells};
 ghost use lib.ListN.{length};
 ghost use Rattle.table.specs.Handed.{handedOf};
-ghost use Rattle.table.specs.LogBlock.{blockCells, blockOf, blockSays, blockText, runOf};
+ghost use Rattle.table.specs.LogBlock.{blockCells, blockFits, blockOf, blockSays, blockText, runOf};
 ghost use Rattle.table.specs.Outcome.{emptied, emptyingSays, outcomeOf, saidBy};
 ghost use Rattle.table.specs.Query.{formatCells, formatSaid, portCells, portSaid};
 
@@ -107,7 +107,7 @@ pub fn read_block(
     input: &[u8],
     out: &mut [u8],
 ) -> Block
-    ensures { λ r. ⌜ (blockOf r ≡ blockSays 128 (runOf (now (table .entry)) lines refused (now (input .entry))) (length (now (out .entry)))) × (now (table .exit) ≡ blockCells 128 (runOf (now (table .entry)) lines refused (now (input .entry))) (length (now (out .entry)))) × (now (out .exit) ≡ blockText 128 (runOf (now (table .entry)) lines refused (now (input .entry))) (now (out .entry))) ⌝ }
+    ensures { λ r. ⌜ (blockOf r ≡ blockSays 128 (runOf (now (table .entry)) lines refused (now (input .entry))) (length (now (out .entry)))) × (now (table .exit) ≡ blockCells 128 (runOf (now (table .entry)) lines refused (now (input .entry))) (length (now (out .entry)))) × (now (out .exit) ≡ blockText 128 (runOf (now (table .entry)) lines refused (now (input .entry))) (now (out .entry)))× (blockFits r (length (now (input .entry))) (length (now (out .entry)))) ⌝ }
 {
     if is_sound(table) {
         return block_sound(table, lines, refused, input, out);
