@@ -7,7 +7,7 @@ use log::totals::put_ending;
 use table::block::Block;
 use table::empty;
 use table::read_block;
-ghost use Prim.Native.Nat.{_≤_};
+ghost use Prim.Native.Nat.{_+_, _≤_};
 ghost use lib.ListN.{length};
 
 // How far the reading is.
@@ -26,20 +26,14 @@ struct Progress {
 fn print(text: &[u8]) -> bool {
     let is_written = io::write_all(STDOUT_FILENO, text);
     if !is_written {
-        os::fail(&[b'w', b'r', b'i', b't', b'e']);
+        os::fail(b"write");
     }
     is_written
 }
 
 // Works through whole records of a part of the input and prints their lines. Of the answer, `held`
 // is how many bytes were worked through.
-fn print_some(
-    table: &mut [u32],
-    lines: u64,
-    refused: u64,
-    input: &[u8],
-    out: &mut [u8],
-) -> Progress
+fn print_some(table: &mut [u32], lines: u64, refused: u64, input: &[u8], out: &mut [u8]) -> Progress
     ensures { λ r. ⌜ r .held ≤ length (now (input .entry)) ⌝ }
 {
     match read_block(table, lines, refused, input, out) {
@@ -69,13 +63,7 @@ fn print_some(
 }
 
 // The same with all whole records that are there, which may take more than one block.
-fn print_all(
-    table: &mut [u32],
-    lines: u64,
-    refused: u64,
-    input: &[u8],
-    out: &mut [u8],
-) -> Progress
+fn print_all(table: &mut [u32], lines: u64, refused: u64, input: &[u8], out: &mut [u8]) -> Progress
     ensures { λ r. ⌜ r .held ≤ length (now (input .entry)) ⌝ }
 {
     let mut done = 0;
@@ -125,32 +113,38 @@ fn keep(input: &mut [u8], from: usize, to: usize)
     }
 }
 
+// Reads once, behind the bytes that are held, and answers how many bytes came.
+fn fetch(input: &mut [u8], held: usize) -> usize
+    requires { ⌜ held ≤ length (now input) ⌝ }
+    ensures { λ r. ⌜ held + r ≤ length (now (input .exit)) ⌝ }
+{
+    let got = libc::read(STDIN_FILENO, &mut input[held..]);
+    if got < 0 {
+        os::fail(b"read");
+    }
+    io::count(got, &input[held..])
+}
+
 // Reads once, prints what came, and keeps what is left of a record.
 fn step(table: &mut [u32], input: &mut [u8], out: &mut [u8], p: Progress) -> Progress
     requires { ⌜ p .held ≤ length (now input) ⌝ }
     ensures { λ r. ⌜ r .held ≤ length (now (input .exit)) ⌝ }
 {
-    let held = p.held;
-    let got = libc::read(STDIN_FILENO, &mut input[held..]);
-    if got < 0 {
-        os::fail(&[b'r', b'e', b'a', b'd']);
-    }
-    let n = io::count(got, &input[held..]);
+    let n = fetch(input, p.held);
     if n == 0 {
         return Progress {
-            held,
+            held: p.held,
             lines: p.lines,
             refused: p.refused,
             is_open: false,
             is_broken: false,
         };
     }
-    let end = held + n;
+    let end = p.held + n;
     let done = print_all(table, p.lines, p.refused, &input[..end], out);
-    let from = done.held;
-    keep(input, from, end);
+    keep(input, done.held, end);
     Progress {
-        held: end - from,
+        held: end - done.held,
         lines: done.lines,
         refused: done.refused,
         is_open: done.is_open,

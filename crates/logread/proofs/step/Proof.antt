@@ -1,36 +1,13 @@
+use Prim.Native.Nat.{ℕ, _+_, _≤_}
+use mathlib.Core.Path.{sym, subst}
+use lib.ListN.{length, take}
+use lib.Seq.{length-take-le}
 use borrow.Author.Needs.{needs}
 use Rattle.logread.proofs.step.Statement.{statement}
 use Rattle.logread.proofs.step.Tie as tie
 
-sub-read : tie.Need-sub-read
-sub-read c = search needs
-
-part-read-start : tie.Need-part-read-start
-part-read-start c = search needs
-
-part-read-end : tie.Need-part-read-end
-part-read-end c = search needs
-
-read-requires : tie.Need-read-requires
-read-requires c κs = search needs
-
-slice-aggregate-fail : tie.Need-slice-aggregate-fail
-slice-aggregate-fail c = search needs
-
-fail-requires : tie.Need-fail-requires
-fail-requires c κs = search needs
-
-sub-count : tie.Need-sub-count
-sub-count c = search needs
-
-part-count-start : tie.Need-part-count-start
-part-count-start c = search needs
-
-part-count-end : tie.Need-part-count-end
-part-count-end c = search needs
-
-count-requires : tie.Need-count-requires
-count-requires c κs = search needs
+fetch-requires : tie.Need-fetch-requires
+fetch-requires c κs = search needs
 
 same-length : tie.Need-same-length
 same-length c = search needs
@@ -45,16 +22,16 @@ slice-reshare-prefix-print-all : tie.Need-slice-reshare-prefix-print-all
 slice-reshare-prefix-print-all c = search needs
 
 slice-aggregate-print-all : tie.Need-slice-aggregate-print-all
-slice-aggregate-print-all c = ?
+slice-aggregate-print-all c = sym (length-take-le (c .before .before .before .before .before .before .before .before .before .before .before .args .p .held + c .before .before .before .before .before .before .fetch .result) (c .before .before .before .before .before .before .fetch .last .0) (c .before .before .before .before .before .before .fetch .ensures))
 
 print-all-requires : tie.Need-print-all-requires
 print-all-requires c κs = search needs
 
 keep-requires : tie.Need-keep-requires
-keep-requires c κs = ?
+keep-requires c κs = (subst (λ (n : ℕ). c .before .before .before .before .before .print-all .result .held ≤ n) (length-take-le (c .before .before .before .before .before .before .before .before .before .before .before .before .before .before .before .before .before .before .args .p .held + c .before .before .before .before .before .before .before .before .before .before .before .before .before .fetch .result) (c .before .before .before .before .before .before .before .before .before .before .before .before .before .fetch .last .0) (c .before .before .before .before .before .before .before .before .before .before .before .before .before .fetch .ensures)) (c .before .before .before .before .before .print-all .ensures), c .before .before .before .before .before .before .before .before .before .before .before .before .before .fetch .ensures)
 
-sub-t13 : tie.Need-sub-t13
-sub-t13 c = ?
+sub-t20 : tie.Need-sub-t20
+sub-t20 c = subst (λ (n : ℕ). c .before .before .before .before .before .before .before .before .before .print-all .result .held ≤ n) (length-take-le (c .before .before .before .before .before .before .before .before .before .before .before .before .before .before .before .before .before .before .before .before .before .before .args .p .held + c .before .before .before .before .before .before .before .before .before .before .before .before .before .before .before .before .before .fetch .result) (c .before .before .before .before .before .before .before .before .before .before .before .before .before .before .before .before .before .fetch .last .0) (c .before .before .before .before .before .before .before .before .before .before .before .before .before .before .before .before .before .fetch .ensures)) (c .before .before .before .before .before .before .before .before .before .print-all .ensures)
 
 same-length-2 : tie.Need-same-length-2
 same-length-2 c = search needs
@@ -72,16 +49,7 @@ pub step-spec : {M : Type 1} → statement M
 step-spec =
     tie.close
     (tie.spec
-    sub-read
-    part-read-start
-    part-read-end
-    read-requires
-    slice-aggregate-fail
-    fail-requires
-    sub-count
-    part-count-start
-    part-count-end
-    count-requires
+    fetch-requires
     same-length
     returns
     add-end
@@ -89,7 +57,7 @@ step-spec =
     slice-aggregate-print-all
     print-all-requires
     keep-requires
-    sub-t13
+    sub-t20
     same-length-2
     same-length-3
     same-length-4
