@@ -124,7 +124,7 @@ fn made_logs() {
     lines.print("made logs");
     let shown = [0, 1, 2, 3, 4, 5, 6, 7, 10, 11, 12, 13, 14, 15, 16, 18, 19];
     for refusal in shown {
-        assert!(lines.by_refusal[refusal] > 20, "refusal {refusal} is seldom");
+        assert!(lines.by_refusal[refusal] > 10, "refusal {refusal} is seldom");
     }
     assert!(lines.values > 1000);
 }
