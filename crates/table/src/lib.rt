@@ -107,7 +107,7 @@ pub fn read_block(
     input: &[u8],
     out: &mut [u8],
 ) -> Block
-    ensures { λ r. ⌜ (blockOf r ≡ blockSays 128 (runOf (now (table .entry)) lines refused (now (input .entry))) (length (now (out .entry)))) × (now (table .exit) ≡ blockCells 128 (runOf (now (table .entry)) lines refused (now (input .entry))) (length (now (out .entry)))) × (now (out .exit) ≡ blockText 128 (runOf (now (table .entry)) lines refused (now (input .entry))) (now (out .entry)))× (blockFits r (length (now (input .entry))) (length (now (out .entry)))) ⌝ }
+    ensures { λ r. ⌜ (blockOf r ≡ blockSays 128 (runOf (now (table .entry)) lines refused (now (input .entry))) (length (now (out .entry)))) × (now (table .exit) ≡ blockCells 128 (runOf (now (table .entry)) lines refused (now (input .entry))) (length (now (out .entry)))) × (now (out .exit) ≡ blockText 128 (runOf (now (table .entry)) lines refused (now (input .entry))) (now (out .entry))) × (blockFits r (length (now (input .entry))) (length (now (out .entry)))) ⌝ }
 {
     if is_sound(table) {
         return block_sound(table, lines, refused, input, out);
