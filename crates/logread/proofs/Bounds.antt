@@ -5,6 +5,7 @@ use native.Mathlib.Omega.{arith}
 use mathlib.Core.Path.{_≡_, sym, subst}
 use mathlib.Core.List.{List}
 use lib.ListN.{length, take, drop, length-take}
+use lib.Seq.{length-take-le}
 use Rattle.table.specs.LogBlock.{blockFits}
 use Rattle.table.specs.declared.block.Block.{Block}
 use Rattle.table.specs.declared.block.Block.the-variants as Block'
@@ -18,3 +19,7 @@ pub part-bound : (done : ℕ) (input : List ℕ) (more : ℕ) → done ≤ lengt
 part-bound done input more h k =
     let most : length (take (length input - done) (drop done input)) ≤ length input - done = subst (λ (n : ℕ). n ≤ length input - done) (sym (length-take (length input - done) (drop done input))) (min-le-left (length input - done) (length (drop done input))) in
     omega (arith, h, k, most)
+
+-- what is within the front of a list is within its size
+pub front-bound : (size : ℕ) (xs : List ℕ) (n : ℕ) → size ≤ length xs → n ≤ length (take size xs) → n ≤ size
+front-bound size xs n h k = subst (λ (m : ℕ). n ≤ m) (length-take-le size xs h) k

@@ -113,7 +113,8 @@ fn keep(input: &mut [u8], from: usize, to: usize)
     }
 }
 
-// Reads once, behind the bytes that are held, and answers how many bytes came.
+// Reads once, behind the bytes that are held, and answers how many bytes came: 0 at the end of the
+// input, and where the read fails.
 fn fetch(input: &mut [u8], held: usize) -> usize
     requires { ⌜ held ≤ length (now input) ⌝ }
     ensures { λ r. ⌜ held + r ≤ length (now (input .exit)) ⌝ }

@@ -1,8 +1,8 @@
-use Prim.Native.Nat.{ℕ, _+_, _≤_}
-use mathlib.Core.Path.{sym, subst}
-use lib.ListN.{length, take}
+use Prim.Native.Nat.{_+_}
+use mathlib.Core.Path.{sym}
 use lib.Seq.{length-take-le}
 use borrow.Author.Needs.{needs}
+use Rattle.logread.proofs.Bounds.{front-bound}
 use Rattle.logread.proofs.step.Statement.{statement}
 use Rattle.logread.proofs.step.Tie as tie
 
@@ -28,10 +28,10 @@ print-all-requires : tie.Need-print-all-requires
 print-all-requires c κs = search needs
 
 keep-requires : tie.Need-keep-requires
-keep-requires c κs = (subst (λ (n : ℕ). c .before .before .before .before .before .print-all .result .held ≤ n) (length-take-le (c .before .before .before .before .before .before .before .before .before .before .before .before .before .before .before .before .before .before .args .p .held + c .before .before .before .before .before .before .before .before .before .before .before .before .before .fetch .result) (c .before .before .before .before .before .before .before .before .before .before .before .before .before .fetch .last .0) (c .before .before .before .before .before .before .before .before .before .before .before .before .before .fetch .ensures)) (c .before .before .before .before .before .print-all .ensures), c .before .before .before .before .before .before .before .before .before .before .before .before .before .fetch .ensures)
+keep-requires c κs = (front-bound (c .before .before .before .before .before .before .before .before .before .before .before .before .before .before .before .before .before .before .args .p .held + c .before .before .before .before .before .before .before .before .before .before .before .before .before .fetch .result) (c .before .before .before .before .before .before .before .before .before .before .before .before .before .fetch .last .0) (c .before .before .before .before .before .print-all .result .held) (c .before .before .before .before .before .before .before .before .before .before .before .before .before .fetch .ensures) (c .before .before .before .before .before .print-all .ensures), c .before .before .before .before .before .before .before .before .before .before .before .before .before .fetch .ensures)
 
 sub-t20 : tie.Need-sub-t20
-sub-t20 c = subst (λ (n : ℕ). c .before .before .before .before .before .before .before .before .before .print-all .result .held ≤ n) (length-take-le (c .before .before .before .before .before .before .before .before .before .before .before .before .before .before .before .before .before .before .before .before .before .before .args .p .held + c .before .before .before .before .before .before .before .before .before .before .before .before .before .before .before .before .before .fetch .result) (c .before .before .before .before .before .before .before .before .before .before .before .before .before .before .before .before .before .fetch .last .0) (c .before .before .before .before .before .before .before .before .before .before .before .before .before .before .before .before .before .fetch .ensures)) (c .before .before .before .before .before .before .before .before .before .print-all .ensures)
+sub-t20 c = front-bound (c .before .before .before .before .before .before .before .before .before .before .before .before .before .before .before .before .before .before .before .before .before .before .args .p .held + c .before .before .before .before .before .before .before .before .before .before .before .before .before .before .before .before .before .fetch .result) (c .before .before .before .before .before .before .before .before .before .before .before .before .before .before .before .before .before .fetch .last .0) (c .before .before .before .before .before .before .before .before .before .print-all .result .held) (c .before .before .before .before .before .before .before .before .before .before .before .before .before .before .before .before .before .fetch .ensures) (c .before .before .before .before .before .before .before .before .before .print-all .ensures)
 
 same-length-2 : tie.Need-same-length-2
 same-length-2 c = search needs
