@@ -1,76 +1,15 @@
 // What a message is to the port table.
 use protocol::Message;
+use rules::Change;
+use rules::Effect;
+use rules::Format;
+use rules::Setup;
 ghost use mathlib.Core.Path.{_≡_};
 ghost use Rattle.rules.specs.Effect.{effectOf, actionEffect};
-ghost use Rattle.effects.specs.Told.{told};
-
-// What a message does to the table, or asks of it.
-pub enum Effect {
-    // Changes nothing and names no port that has to be present.
-    Nothing,
-    // Changes nothing, and wants the port present.
-    Names {
-        port: u8,
-    },
-    // 0x04, event 1
-    Attach {
-        port: u8,
-        device: u16,
-    },
-    // 0x04, event 2
-    AttachVirtual {
-        port: u8,
-        device: u16,
-        port_a: u8,
-        port_b: u8,
-    },
-    // 0x04, event 0
-    Detach {
-        port: u8,
-    },
-    // 0x44, information type 0x80
-    SetFormat {
-        port: u8,
-        mode: u8,
-        datasets: u8,
-        kind: u8,
-        figures: u8,
-        decimals: u8,
-    },
-    // 0x47
-    Answer {
-        port: u8,
-        mode: u8,
-        delta: u32,
-        notify: u8,
-    },
-    // 0x41
-    Ask {
-        port: u8,
-        mode: u8,
-        delta: u32,
-        notify: u8,
-    },
-    // 0x45
-    Value {
-        port: u8,
-    },
-    // 0x61, sub command 0
-    Disconnect {
-        port: u8,
-    },
-    // 0x61, sub command 1
-    Connect {
-        port_a: u8,
-        port_b: u8,
-    },
-    // 0x02 up, 0x30 to 0x32
-    Empty,
-}
 
 // A hub action: 0x30, 0x31 and 0x32 empty the table.
 fn action_effect(action: u8) -> Effect
-    ensures { λ r. ⌜ told r ≡ actionEffect action ⌝ }
+    ensures { λ r. ⌜ r ≡ actionEffect action ⌝ }
 {
     if action < 0x30 {
         return Effect::Nothing;
@@ -83,7 +22,7 @@ fn action_effect(action: u8) -> Effect
 
 // What a message is to the table.
 pub fn effect_of(m: Message) -> Effect
-    ensures { λ r. ⌜ told r ≡ effectOf m ⌝ }
+    ensures { λ r. ⌜ r ≡ effectOf m ⌝ }
 {
     match m {
         Message::HubAction { action } => action_effect(action),
@@ -108,22 +47,32 @@ pub fn effect_of(m: Message) -> Effect
         Message::PortInformationRequest {
             port,
             information: _,
-        } => Effect::Names { port },
+        } => Effect::ToPort {
+            port,
+            change: Change::Unchanged,
+        },
         Message::ModeInformationRequest {
             port,
             mode: _,
             information: _,
-        } => Effect::Names { port },
+        } => Effect::ToPort {
+            port,
+            change: Change::Unchanged,
+        },
         Message::InputFormatSetup {
             port,
             mode,
             delta,
             notify,
-        } => Effect::Ask {
+        } => Effect::ToPort {
             port,
-            mode,
-            delta,
-            notify,
+            change: Change::Asked {
+                setup: Setup {
+                    mode,
+                    delta,
+                    notify,
+                },
+            },
         },
         Message::PortModes {
             port,
@@ -131,38 +80,59 @@ pub fn effect_of(m: Message) -> Effect
             mode_count: _,
             input_modes: _,
             output_modes: _,
-        } => Effect::Names { port },
+        } => Effect::ToPort {
+            port,
+            change: Change::Unchanged,
+        },
         Message::PortCombinations {
             port,
             combinations: _,
-        } => Effect::Names { port },
+        } => Effect::ToPort {
+            port,
+            change: Change::Unchanged,
+        },
         Message::ModeText {
             port,
             mode: _,
             information: _,
-        } => Effect::Names { port },
+        } => Effect::ToPort {
+            port,
+            change: Change::Unchanged,
+        },
         Message::ModeRange {
             port,
             mode: _,
             information: _,
             lowest: _,
             highest: _,
-        } => Effect::Names { port },
+        } => Effect::ToPort {
+            port,
+            change: Change::Unchanged,
+        },
         Message::ModeMapping {
             port,
             mode: _,
             mapping: _,
-        } => Effect::Names { port },
+        } => Effect::ToPort {
+            port,
+            change: Change::Unchanged,
+        },
         Message::ModeBias {
             port,
             mode: _,
             bias: _,
-        } => Effect::Names { port },
+        } => Effect::ToPort {
+            port,
+            change: Change::Unchanged,
+        },
         Message::ModeCapabilities {
             port,
             mode: _,
             bits: _,
-        } => Effect::Names { port },
+        } => Effect::ToPort {
+            port,
+            change: Change::Unchanged,
+        },
         Message::ValueFormat {
             port,
             mode,
@@ -170,13 +140,17 @@ pub fn effect_of(m: Message) -> Effect
             kind,
             figures,
             decimals,
-        } => Effect::SetFormat {
+        } => Effect::ToPort {
             port,
-            mode,
-            datasets,
-            kind,
-            figures,
-            decimals,
+            change: Change::Formatted {
+                mode,
+                format: Format {
+                    datasets,
+                    kind,
+                    figures,
+                    decimals,
+                },
+            },
         },
         Message::PortValue { port } => Effect::Value { port },
         Message::InputFormat {
@@ -184,11 +158,15 @@ pub fn effect_of(m: Message) -> Effect
             mode,
             delta,
             notify,
-        } => Effect::Answer {
+        } => Effect::ToPort {
             port,
-            mode,
-            delta,
-            notify,
+            change: Change::Answered {
+                setup: Setup {
+                    mode,
+                    delta,
+                    notify,
+                },
+            },
         },
         Message::VirtualDisconnect { port } => Effect::Disconnect { port },
         Message::VirtualConnect { port_a, port_b } => Effect::Connect { port_a, port_b },

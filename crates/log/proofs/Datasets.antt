@@ -13,7 +13,7 @@ use lib.Ieee.Bits.{toBits-ofBits}
 use Rattle.protocol.specs.Number.{isFinite}
 use Rattle.protocol.proofs.Floats.{not-nan}
 use Rattle.protocol.proofs.Tests.{which, and-left}
-use Rattle.rules.specs.Facts.{Format}
+use Rattle.rules.specs.declared.Format.{Format}
 use Rattle.rules.specs.Judge.{widthOf}
 use Rattle.rules.specs.Value.{Handed, whole, float, datasetOf, handFloat}
 use Rattle.rules.specs.Value as Value

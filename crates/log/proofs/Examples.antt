@@ -7,6 +7,7 @@ use Rattle.protocol.specs.Types.{types, hubAttachedIo, portModeInformation}
 use Rattle.rules.specs.Effect.{effectOf}
 use Rattle.rules.specs.Judge.{judge}
 use Rattle.rules.specs.Value.{datasetOf, hand}
+use Rattle.rules.specs.Learn.{learn}
 use Rattle.rules.specs.Table.{apply}
 use Rattle.rules.specs.WellFormed.{wellFormed}
 use Rattle.rules.specs.Cells.{recordCells, cellsOf, recordAt, tableAt, sound, emptyCells}
@@ -19,7 +20,7 @@ use Rattle.log.specs.Output.{allLines, totalText, output}
 use Rattle.log.specs.Examples.{SixRecords, EmptyInput}
 
 pub six-records : SixRecords
-unfolding decode decodeWay decodeType decodeForm layout littleEndian types hubAttachedIo portModeInformation effectOf judge datasetOf hand apply wellFormed recordCells cellsOf recordAt tableAt sound emptyCells judgeEntry handEntry offerCells cellsAfter handCells decimal messageIn malformed valueLine recordLine Line.recordCells allLines totalText output
+unfolding decode decodeWay decodeType decodeForm layout littleEndian types hubAttachedIo portModeInformation effectOf judge datasetOf hand learn apply wellFormed recordCells cellsOf recordAt tableAt sound emptyCells judgeEntry handEntry offerCells cellsAfter handCells decimal messageIn malformed valueLine recordLine Line.recordCells allLines totalText output
 six-records = refl
 
 pub empty-input : EmptyInput

@@ -5,7 +5,8 @@ use mathlib.Core.List.{List, [], _∷_}
 use mathlib.Core.Option.{Option, none, some}
 use lib.Dec.{eqb}
 use lib.Ieee.{binary32, toBits}
-use Rattle.rules.specs.Effect.{Effect, nothing, names, attach, attachVirtual, detach, setFormat, answer, ask, value, disconnect, connect, empty}
+use Rattle.rules.specs.declared.Effect.{Effect}
+use Rattle.rules.specs.declared.Effect.the-variants as Effect'
 use Rattle.rules.specs.Value.{Handed, whole, float}
 use Rattle.rules.specs.Value as Value
 use Rattle.rules.specs.Offer.{Entry, Verdict, accepts, offerCells, cellsAfter, handCells}
@@ -49,18 +50,15 @@ valueLine hand = withNumbers (hand 0) (numbersFrom 16 hand 0)
 -- ---- the line of a record
 
 abbrev pub acceptedLine : (ℕ → Handed) → Effect → Line
-acceptedLine hand nothing = accepted
-acceptedLine hand (names port) = accepted
-acceptedLine hand (attach port device) = accepted
-acceptedLine hand (attachVirtual port device a b) = accepted
-acceptedLine hand (detach port) = accepted
-acceptedLine hand (setFormat port mode f) = accepted
-acceptedLine hand (answer port s) = accepted
-acceptedLine hand (ask port s) = accepted
-acceptedLine hand (value port) = valueLine hand
-acceptedLine hand (disconnect port) = accepted
-acceptedLine hand (connect a b) = accepted
-acceptedLine hand empty = accepted
+acceptedLine hand Effect'.Nothing = accepted
+acceptedLine hand (Effect'.ToPort port c) = accepted
+acceptedLine hand (Effect'.Attach port device) = accepted
+acceptedLine hand (Effect'.AttachVirtual port device a b) = accepted
+acceptedLine hand (Effect'.Detach port) = accepted
+acceptedLine hand (Effect'.Value port) = valueLine hand
+acceptedLine hand (Effect'.Disconnect port) = accepted
+acceptedLine hand (Effect'.Connect a b) = accepted
+acceptedLine hand Effect'.Empty = accepted
 
 abbrev pub verdictLine : (ℕ → Handed) → Verdict → Line
 verdictLine hand (Offer.refused n place) = refused n

@@ -12,14 +12,12 @@ use lib.Dec.{eqb, leb, ltb}
 use lib.ListN.{length, getD, take}
 use Rattle.protocol.specs.Form.{upFrom}
 use Rattle.protocol.proofs.Tests.{which, and-left, and-right}
-use Rattle.rules.specs.Facts.{Setup, Format, Wiring, unjoined, joined, virtual, Facts}
+use Rattle.rules.specs.Layout.{modeCount, stride}
+use Rattle.rules.specs.Facts.{Setup, Format, Wiring, Unjoined, Joined, Virtual, Settings, Facts}
 use Rattle.rules.specs.Table.{Record}
-use Rattle.rules.specs.WellFormed.{setupFits, formatFits, formatsFit, stateFits, factsFit}
-use Rattle.rules.specs.Cells.{stride, formatCell, setupCells, wiringCell, firstPartner, secondPartner, formatCells, modes, recordCells, placeCells, formatAt, wiringAt, recordAt, placeAt}
-
--- no format of a mode from 16 on
-abbrev pub NoHigh : (ℕ → Option Format) → Type 0
-NoHigh formats = (m : ℕ) → 16 ≤ m → formats m ≡ none
+use Rattle.rules.specs.WellFormed.{formatFits, formatsFit, settingsFit, factsFit}
+use Rattle.rules.specs.Cells.{formatCell, setupCells, wiringCell, firstPartner, secondPartner, formatCells, modes, recordCells, placeCells, formatAt, wiringAt, recordAt, placeAt}
+use Rattle.rules.proofs.SettingsFit.{NoHigh, listed}
 
 -- five tests passed: each did
 pub five-passed : (a b c d e : Bool) → (a && b && c && d && e) ≡ true → (a ≡ true) × (b ≡ true) × (c ≡ true) × (d ≡ true) × (e ≡ true)
@@ -67,29 +65,33 @@ mode-fits (suc n) formats e m h =
     (λ (other : eqb m n ≡ false). let differs = eqb-false m n other in mode-fits n formats (and-right (formatFits (formats n)) _ e) m (omega arith))
     (which (eqb m n))
 
-formats-back : (formats : ℕ → Option Format) → NoHigh formats → formatsFit 16 formats ≡ true → (m : ℕ) → formatAt (getD (formatCells formats modes) m 0) ≡ formats m
+formats-back : (formats : ℕ → Option Format) → NoHigh formats → formatsFit modeCount formats ≡ true → (m : ℕ) → formatAt (getD (formatCells formats modes) m 0) ≡ formats m
 formats-back formats high e m =
     let fits : formatFits (formats m) ≡ true =
-    ⊎-elim (λ (below : ltb m 16 ≡ true). mode-fits 16 formats e m (ltb-true m 16 below)) (λ (above : ltb m 16 ≡ false). rw (high m (ltb-false m 16 above))) (which (ltb m 16))
+    ⊎-elim (λ (below : ltb m modeCount ≡ true). mode-fits modeCount formats e m (ltb-true m modeCount below)) (λ (above : ltb m modeCount ≡ false). rw (high m (ltb-false m modeCount above))) (which (ltb m modeCount))
     in
-    ap formatAt (mode-cell formats 0 16 m high ∙ ap (λ (k : ℕ). formatCell (formats k)) (zero-add m)) ∙ format-back (formats m) fits
+    ap formatAt (mode-cell formats 0 modeCount m high ∙ ap (λ (k : ℕ). formatCell (formats k)) (zero-add m)) ∙ format-back (formats m) fits
 
 -- ---- the other cells
 
 wiring-back : (w : Wiring) → wiringAt (wiringCell w) (firstPartner w) (secondPartner w) ≡ w
-wiring-back unjoined = refl
-wiring-back (joined v) = refl
-wiring-back (virtual a b) = refl
+wiring-back Unjoined = refl
+wiring-back (Joined v) = refl
+wiring-back (Virtual a b) = refl
 
 wired-not-free : (w : Wiring) → eqb (wiringCell w) 0 ≡ false
-wired-not-free unjoined = refl
-wired-not-free (joined v) = refl
-wired-not-free (virtual a b) = refl
+wired-not-free Unjoined = refl
+wired-not-free (Joined v) = refl
+wired-not-free (Virtual a b) = refl
 
 -- what cells stand for, the setups' among them
 setups-back : (w port device a b state : ℕ) (asked answered : Option Setup) (fs : List ℕ) → recordAt (w ∷ port ∷ device ∷ a ∷ b ∷ state ∷ (setupCells asked ++ setupCells answered ++ fs)) ≡ record {
   port = port;
-  facts = record { device = device; wiring = wiringAt w a b; formats = λ mode. formatAt (getD (take 16 fs) mode 0); answered = answered; asked = asked; state = state };
+  facts = record {
+    device = device;
+    wiring = wiringAt w a b;
+    settings = record { formats = λ mode. formatAt (getD (take modeCount fs) mode 0); answered = answered; asked = asked; state = state };
+  };
 }
 unfolding recordAt
 setups-back w port device a b state none none fs = refl
@@ -105,21 +107,19 @@ setups-length (some s) (some t) fs = omega arith
 
 -- ---- a record, and a place
 
-pub record-back : (r : Record) → NoHigh (r .facts .formats) → factsFit (r .facts) ≡ true → recordAt (recordCells r) ≡ r
+pub record-back : (r : Record) → NoHigh (r .facts .settings .formats) → factsFit (r .facts) ≡ true → recordAt (recordCells r) ≡ r
 unfolding recordCells
 record-back r high fits =
     let f : Facts = r .facts in
-    let passed = five-passed (ltb (f .device) 65536) (formatsFit 16 (f .formats)) (setupFits (f .answered)) (setupFits (f .asked)) (stateFits (f .asked) (f .answered) (f .state)) fits in
-    setups-back (wiringCell (f .wiring)) (r .port) (f .device) (firstPartner (f .wiring)) (secondPartner (f .wiring)) (f .state) (f .asked) (f .answered) (formatCells (f .formats) modes)
+    let s : Settings = f .settings in
+    let formats = listed s (and-right (ltb (f .device) 65536) (settingsFit s) fits) .formats in
+    setups-back (wiringCell (f .wiring)) (r .port) (f .device) (firstPartner (f .wiring)) (secondPartner (f .wiring)) (s .state) (s .asked) (s .answered) (formatCells (s .formats) modes)
     ∙ λ i. record {
       port = r .port;
       facts = record {
         device = f .device;
         wiring = wiring-back (f .wiring) i;
-        formats = λ mode. formats-back (f .formats) high (passed .1) mode i;
-        answered = f .answered;
-        asked = f .asked;
-        state = f .state;
+        settings = record { formats = λ mode. formats-back (s .formats) high formats mode i; answered = s .answered; asked = s .asked; state = s .state };
       };
     }
 
@@ -128,7 +128,7 @@ unfolding recordCells
 record-length r = rw setups-length
 
 -- no record has the first cell of a free place
-pub record-place : (r : Record) → NoHigh (r .facts .formats) → factsFit (r .facts) ≡ true → placeAt (recordCells r) ≡ some r
+pub record-place : (r : Record) → NoHigh (r .facts .settings .formats) → factsFit (r .facts) ≡ true → placeAt (recordCells r) ≡ some r
 unfolding recordCells
 record-place r high fits = rw (wired-not-free (r .facts .wiring)) (ap some (record-back r high fits))
 

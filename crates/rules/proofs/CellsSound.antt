@@ -9,11 +9,13 @@ use borrow.Author.Tests.{eqb-true, eq-eqb}
 use lib.Dec.{eqb}
 use lib.ListN.{length, getD, take, drop, replicate, length-take, length-append, replicate-append-replicate, List·getD-eq-default}
 use Rattle.protocol.proofs.Tests.{and-left, and-right}
+use Rattle.rules.specs.Layout.{modeCount, places, stride, tableSize, formatsIndex}
 use Rattle.rules.specs.Facts.{View}
 use Rattle.rules.specs.Table.{Record, Table, viewOfTable}
 use Rattle.rules.specs.WellFormed.{placesFit, wellFormed}
-use Rattle.rules.specs.Cells.{stride, placeCells, cellsOf, formatAt, recordAt, placesAt, tableAt, sameCells, sound, emptyCells}
-use Rattle.rules.proofs.CellsRecord.{NoHigh, place-length}
+use Rattle.rules.specs.Cells.{placeCells, cellsOf, formatAt, recordAt, placesAt, tableAt, sameCells, sound, emptyCells}
+use Rattle.rules.proofs.SettingsFit.{NoHigh}
+use Rattle.rules.proofs.CellsRecord.{place-length}
 use Rattle.rules.proofs.CellsTable.{NoHighFormats, table-back}
 
 -- ---- the comparison of cells
@@ -33,7 +35,7 @@ same-equal (c ∷ cs) (d ∷ ds) e =
 
 -- ---- the cells of a well formed table are sound
 
-pub sound-cells : (t : Table) → length t ≡ 16 → NoHighFormats t → wellFormed t ≡ true → sound (cellsOf t) ≡ true
+pub sound-cells : (t : Table) → length t ≡ places → NoHighFormats t → wellFormed t ≡ true → sound (cellsOf t) ≡ true
 unfolding sound
 sound-cells t sixteen high well = rw (table-back t sixteen high well, same-refl, well)
 
@@ -43,11 +45,11 @@ places-length : (n : ℕ) (cells : List ℕ) → length (placesAt n cells) ≡ n
 places-length zero cells = refl
 places-length (suc n) cells = ap suc (places-length n (drop stride cells))
 
-record-high : (c : List ℕ) → NoHigh (recordAt c .facts .formats)
+record-high : (c : List ℕ) → NoHigh (recordAt c .facts .settings .formats)
 unfolding recordAt
-record-high c m h = ap formatAt (List·getD-eq-default (take 16 (drop 12 c)) 0 (rw length-take (omega arith)))
+record-high c m h = ap formatAt (List·getD-eq-default (take modeCount (drop formatsIndex c)) 0 (rw length-take (omega arith)))
 
-place-high : (free : Bool) (r : Record) (t : Table) → NoHigh (r .facts .formats) → NoHighFormats t → NoHighFormats (cond free none (some r) ∷ t)
+place-high : (free : Bool) (r : Record) (t : Table) → NoHigh (r .facts .settings .formats) → NoHighFormats t → NoHighFormats (cond free none (some r) ∷ t)
 place-high true r t here there = there
 place-high false r t here there = (here, there)
 
@@ -57,12 +59,12 @@ places-high (suc n) cells =
     let c : List ℕ = take stride cells in
     place-high (eqb (getD c 0 0) 0) (recordAt c) (placesAt n (drop stride cells)) (record-high c) (places-high n (drop stride cells))
 
-pub sound-is : (cells : List ℕ) → sound cells ≡ true → (cells ≡ cellsOf (tableAt cells)) × (wellFormed (tableAt cells) ≡ true) × (length (tableAt cells) ≡ 16) × NoHighFormats (tableAt cells)
+pub sound-is : (cells : List ℕ) → sound cells ≡ true → (cells ≡ cellsOf (tableAt cells)) × (wellFormed (tableAt cells) ≡ true) × (length (tableAt cells) ≡ places) × NoHighFormats (tableAt cells)
 unfolding sound tableAt
 sound-is cells e =
     let same : Bool = sameCells cells (cellsOf (tableAt cells)) in
     let well : Bool = wellFormed (tableAt cells) in
-    (same-equal cells (cellsOf (tableAt cells)) (and-left same well e), and-right same well e, places-length 16 cells, places-high 16 cells)
+    (same-equal cells (cellsOf (tableAt cells)) (and-left same well e), and-right same well e, places-length places cells, places-high places cells)
 
 -- ---- how many cells
 
@@ -73,7 +75,7 @@ cells-length (p ∷ t) =
     let more : stride + stride * length t ≡ stride * suc (length t) = omega arith in
     length-append (placeCells p) (cellsOf t) ∙ (λ i. place-length p i + cells-length t i) ∙ more
 
-pub sound-length : (cells : List ℕ) → sound cells ≡ true → length cells ≡ 448
+pub sound-length : (cells : List ℕ) → sound cells ≡ true → length cells ≡ tableSize
 sound-length cells e =
     let k = sound-is cells e in
     ap length (k .0) ∙ cells-length (tableAt cells) ∙ ap (λ (n : ℕ). stride * n) (k .2)
@@ -95,16 +97,16 @@ pub none-high : (n : ℕ) → NoHighFormats (replicate n none)
 none-high zero = tt
 none-high (suc n) = none-high n
 
-pub empty-well : wellFormed (replicate 16 none) ≡ true
+pub empty-well : wellFormed (replicate places none) ≡ true
 unfolding wellFormed
-empty-well = none-fits (viewOfTable (replicate 16 none)) 16
+empty-well = none-fits (viewOfTable (replicate places none)) places
 
-pub empty-cells : emptyCells ≡ cellsOf (replicate 16 none)
+pub empty-cells : emptyCells ≡ cellsOf (replicate places none)
 unfolding emptyCells
-empty-cells = sym (none-cells 16)
+empty-cells = sym (none-cells places)
 
-pub empty-table : tableAt emptyCells ≡ replicate 16 none
-empty-table = ap tableAt empty-cells ∙ table-back (replicate 16 none) refl (none-high 16) empty-well
+pub empty-table : tableAt emptyCells ≡ replicate places none
+empty-table = ap tableAt empty-cells ∙ table-back (replicate places none) refl (none-high places) empty-well
 
 pub empty-sound : sound emptyCells ≡ true
-empty-sound = ap sound empty-cells ∙ sound-cells (replicate 16 none) refl (none-high 16) empty-well
+empty-sound = ap sound empty-cells ∙ sound-cells (replicate places none) refl (none-high places) empty-well

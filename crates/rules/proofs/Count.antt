@@ -10,6 +10,7 @@ use borrow.Author.Tests.{eqb-true, eqb-false, eq-eqb, lt-ltb, le-ltb, le-leb, lt
 use lib.Dec.{eqb, leb, ltb}
 use lib.ListN.{length}
 use Rattle.protocol.proofs.Tests.{which}
+use Rattle.rules.specs.Layout.{portCount, places}
 use Rattle.rules.specs.Facts.{Facts, known}
 use Rattle.rules.specs.History.{oneIf, presentBelow}
 use Rattle.rules.specs.Table.{Record, Table, fullTable, viewOfTable}
@@ -58,12 +59,12 @@ empty-counts : (n : ℕ) → presentBelow n (viewOfTable []) ≡ 0
 empty-counts zero = refl
 empty-counts (suc n) = rw (empty-counts n)
 
-counted : (t : Table) → Distinct t → ((p : ℕ) → known (viewOfTable t p) ≡ true → p < 256) → presentBelow 256 (viewOfTable t) ≡ used t
-counted [] d low = empty-counts 256
+counted : (t : Table) → Distinct t → ((p : ℕ) → known (viewOfTable t p) ≡ true → p < portCount) → presentBelow portCount (viewOfTable t) ≡ used t
+counted [] d low = empty-counts portCount
 counted (none ∷ t) d low = counted t d low
 counted (some r ∷ t) d low =
-    let small : r .port < 256 = low (r .port) (rw (eq-eqb (r .port) (r .port) refl)) in
-    record-counts r t (d .0) 256 ∙ rw (lt-ltb (r .port) 256 small, counted t (d .1) (λ p e. low p (past p e))) (omega arith)
+    let small : r .port < portCount = low (r .port) (rw (eq-eqb (r .port) (r .port) refl)) in
+    record-counts r t (d .0) portCount ∙ rw (lt-ltb (r .port) portCount small, counted t (d .1) (λ p e. low p (past p e))) (omega arith)
   where
     past : (p : ℕ) → known (viewOfTable t p) ≡ true → known (viewOfTable (some r ∷ t) p) ≡ true
     past p e = go (eqb (r .port) p)
@@ -76,10 +77,10 @@ known-some : (x : Option Facts) → known x ≡ true → (f : Facts) × (x ≡ s
 known-some none e = let z : _≡_ {A = ℕ} 0 1 = cc in absurd (omega arith)
 known-some (some f) e = (f, refl)
 
-pub same-full : (t : Table) → Sound t → fullTable t ≡ leb 16 (presentBelow 256 (viewOfTable t))
+pub same-full : (t : Table) → Sound t → fullTable t ≡ leb places (presentBelow portCount (viewOfTable t))
 same-full t s =
-    let total : presentBelow 256 (viewOfTable t) ≡ used t = counted t (s .loose .distinct) (λ p e. let k = known-some (viewOfTable t p) e in s .loose .fit p (k .0) (k .1) .small) in
+    let total : presentBelow portCount (viewOfTable t) ≡ used t = counted t (s .loose .distinct) (λ p e. let k = known-some (viewOfTable t p) e in s .loose .fit p (k .0) (k .1) .small) in
     ⊎-elim
-    (λ (e : fullTable t ≡ true). e ∙ sym (ap (leb 16) total ∙ le-leb 16 (used t) (omega (arith, full-used t e, s .loose .size))))
-    (λ (e : fullTable t ≡ false). e ∙ sym (ap (leb 16) total ∙ lt-leb 16 (used t) (omega (arith, room-used t e, s .loose .size))))
+    (λ (e : fullTable t ≡ true). e ∙ sym (ap (leb places) total ∙ le-leb places (used t) (omega (arith, full-used t e, s .loose .size))))
+    (λ (e : fullTable t ≡ false). e ∙ sym (ap (leb places) total ∙ lt-leb places (used t) (omega (arith, room-used t e, s .loose .size))))
     (which (fullTable t))

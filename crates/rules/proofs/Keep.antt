@@ -10,6 +10,7 @@ use borrow.Author.Tests.{eqb-true, eqb-false, ne-eqb}
 use lib.Dec.{eqb}
 use lib.ListN.{length}
 use Rattle.protocol.proofs.Tests.{which}
+use Rattle.rules.specs.Layout.{places}
 use Rattle.rules.specs.Facts.{Facts, known}
 use Rattle.rules.specs.Table.{Record, Table, fullTable, viewOfTable, insert, change, remove, freed}
 use Rattle.rules.proofs.Lookup.{mapFacts, after, view-change, view-remove, view-insert, view-freed}
@@ -144,7 +145,7 @@ loose-insert new t room fresh l good = record {
         rw (sym same, sym (eqb-true (new .port) q k)) good
     one q f (inr k) e = l .fit q f (rw k at e)
 
-pub loose-freed : (t : Table) → length t ≡ 16 → Loose (map freed t)
+pub loose-freed : (t : Table) → length t ≡ places → Loose (map freed t)
 loose-freed t n = record {
   size = length-freed t ∙ n;
   distinct = distinct-freed t;

@@ -1,22 +1,19 @@
 -- The laws of the table that come with demand 3.
 use Prim.Native.Nat.{ℕ}
-use mathlib.Core.Path.{_≡_, refl, _∙_, ap}
+use mathlib.Core.Path.{_≡_, refl, ap}
 use mathlib.Core.Bool.{Bool, true, cond}
 use mathlib.Core.List.{List, [], _∷_}
 use mathlib.Core.Option.{none, some}
 use native.Mathlib.Omega.{arith}
 use borrow.Author.Tests.{eq-eqb}
-use Rattle.rules.specs.Ranges.{effectFits}
-use Rattle.rules.specs.Table.{Table, viewOfTable, modesOfTable, fullTable, remove, apply}
+use Rattle.rules.specs.Table.{Table, portsOfTable, remove, apply}
 use Rattle.rules.specs.Cells.{tableAt, sound}
 use Rattle.rules.specs.Offer.{Verdict, refused, accepts, judgeEntry, offerCells, appliedTo, cellsAfter}
 use Rattle.rules.specs.Laws.{EmptySound, StepKeepsSound, RefusedChangesNothing, FreedIsEmpty, LowestPlace}
 use Rattle.rules.proofs.Sound.{Sound}
-use Rattle.rules.proofs.Kept.{keeps}
-use Rattle.rules.proofs.Ranges.{effect-fits}
 use Rattle.rules.proofs.CellsSound as CellsSound
 use Rattle.rules.proofs.Formed.{formed-sound}
-use Rattle.rules.proofs.Demand3.{is-sound, was-accepted}
+use Rattle.rules.proofs.Offered.{is-sound, kept}
 
 pub empty-sound : EmptySound
 empty-sound = CellsSound.empty-sound
@@ -29,15 +26,11 @@ table-sound cells e =
 
 pub step-keeps-sound : StepKeepsSound
 unfolding cellsAfter offerCells
-step-keeps-sound cells e b s = rw s (go (judgeEntry (viewOfTable (tableAt cells)) (modesOfTable (tableAt cells)) (fullTable (tableAt cells)) e) refl)
+step-keeps-sound cells e b s = rw s (go (judgeEntry (portsOfTable (tableAt cells)) e) refl)
   where
-    go : (v : Verdict) → judgeEntry (viewOfTable (tableAt cells)) (modesOfTable (tableAt cells)) (fullTable (tableAt cells)) e ≡ v → sound (appliedTo cells v) ≡ true
+    go : (v : Verdict) → judgeEntry (portsOfTable (tableAt cells)) e ≡ v → sound (appliedTo cells v) ≡ true
     go (refused n place) k = s
-    go (accepts x) k =
-        let t : Table = tableAt cells in
-        let a = was-accepted (viewOfTable t) (modesOfTable t) (fullTable t) e x k in
-        let fits : effectFits x ≡ true = ap effectFits (a .is) ∙ effect-fits (e .way) (e .bytes) b (a .form) (a .values) (a .read) in
-        is-sound (apply x t) (keeps x t (a .count) (table-sound cells s) fits (a .good))
+    go (accepts x) k = is-sound (apply x (tableAt cells)) (kept (tableAt cells) (table-sound cells s) e b x k)
 
 pub refused-changes-nothing : RefusedChangesNothing
 unfolding cellsAfter

@@ -30,10 +30,10 @@ same-both : {A : Type 0} (b : Bool) (x : A) → cond b x x ≡ x
 same-both true x = refl
 same-both false x = refl
 
-here : (b c : Bool) (x y : Facts) → cond b (some (cond c x y)) (some y) ≡ cond b (cond c (some x) (some y)) (some y)
-here true true x y = refl
-here true false x y = refl
-here false c x y = refl
+-- a function of a choice
+pub cond-ap : {A B : Type 0} (k : A → B) (b : Bool) (x y : A) → k (cond b x y) ≡ cond b (k x) (k y)
+cond-ap k true x y = refl
+cond-ap k false x y = refl
 
 pub view-change : (port : ℕ) (f : Facts → Facts) (t : Table) (q : ℕ) → viewOfTable (change port f t) q ≡ after port f q (viewOfTable t q)
 view-change port f [] q = sym (same-both (eqb port q) none)
@@ -42,13 +42,9 @@ view-change port f (some r ∷ t) q =
     ⊎-elim
     (λ (yes : eqb (r .port) q ≡ true).
     let swap : eqb (r .port) port ≡ eqb port q = ap (λ (k : ℕ). eqb k port) (eqb-true (r .port) q yes) ∙ eqb-sym q port in
-    rw (yes, swap) (one (eqb port q) (r .facts)))
+    rw (yes, swap) (cond-ap some (eqb port q) (f (r .facts)) (r .facts)))
     (λ (no : eqb (r .port) q ≡ false). rw no (view-change port f t q))
     (which (eqb (r .port) q))
-  where
-    one : (b : Bool) (x : Facts) → some (cond b (f x) x) ≡ cond b (some (f x)) (some x)
-    one true x = refl
-    one false x = refl
 
 pub view-remove : (port : ℕ) (t : Table) (q : ℕ) → viewOfTable (remove port t) q ≡ cond (eqb port q) none (viewOfTable t q)
 view-remove port [] q = sym (same-both (eqb port q) none)
@@ -81,7 +77,7 @@ view-insert new (some r ∷ t) q room fresh =
     (λ (yes : eqb (r .port) (new .port) ≡ true). let there : some (r .facts) ≡ none = rw yes at fresh in let z : _≡_ {A = ℕ} 0 1 = cc in absurd (omega arith))
     (λ (no : eqb (r .port) (new .port) ≡ false).
     let rest : viewOfTable t (new .port) ≡ none = rw no at fresh in
-    rw (view-insert new t q room rest) (swap (which (eqb (r .port) q)) no))
+    ap (λ (x : Option Facts). cond (eqb (r .port) q) (some (r .facts)) x) (view-insert new t q room rest) ∙ swap (which (eqb (r .port) q)) no)
     (which (eqb (r .port) (new .port)))
   where
     swap : (eqb (r .port) q ≡ true) ⊎ (eqb (r .port) q ≡ false) → eqb (r .port) (new .port) ≡ false

@@ -12,46 +12,40 @@ use Rattle.protocol.specs.Decode.{accepted, openOf}
 use Rattle.protocol.specs.Answer.{formOf, valuesOf}
 use Rattle.protocol.specs.declared.Message.{Message}
 use Rattle.protocol.specs.declared.Message.the-variants as Message'
-use Rattle.rules.specs.Effect.{Effect, nothing, names, attach, attachVirtual, detach, setFormat, answer, ask, value, disconnect, connect, empty, effectOf}
-use Rattle.rules.specs.Facts.{View, Modes}
+use Rattle.rules.specs.Effect.{Effect, Nothing, ToPort, Attach, AttachVirtual, Detach, Value, Disconnect, Connect, Empty, effectOf}
+use Rattle.rules.specs.Facts.{Ports}
 use Rattle.rules.specs.Judge.{judge}
 use Rattle.rules.specs.Value.{hand}
 
 abbrev isValue : Effect → Bool
-isValue nothing = false
-isValue (names port) = false
-isValue (attach port device) = false
-isValue (attachVirtual port device a b) = false
-isValue (detach port) = false
-isValue (setFormat port mode f) = false
-isValue (answer port s) = false
-isValue (ask port s) = false
-isValue (value port) = true
-isValue (disconnect port) = false
-isValue (connect a b) = false
-isValue empty = false
+isValue Nothing = false
+isValue (ToPort port c) = false
+isValue (Attach port device) = false
+isValue (AttachVirtual port device a b) = false
+isValue (Detach port) = false
+isValue (Value port) = true
+isValue (Disconnect port) = false
+isValue (Connect a b) = false
+isValue Empty = false
 
 -- with any bytes it is judged alike, and hands out the same
 pub record Alike (e : Effect) (b c : List ℕ) : Type 0 where
-  pub judges : (view : View) (modes : Modes) (full : Bool) → judge view modes full e (length b) ≡ judge view modes full e (length c)
-  pub hands : (view : View) (modes : Modes) (full : Bool) (n : ℕ) → hand view modes full e b n ≡ hand view modes full e c n
+  pub judges : (ports : Ports) → judge ports e (length b) ≡ judge ports e (length c)
+  pub hands : (ports : Ports) (n : ℕ) → hand ports e b n ≡ hand ports e c n
 
 alike : (e : Effect) (b c : List ℕ) → isValue e ≡ false → Alike e b c
 unfolding judge hand
-alike nothing b c h = record { judges = λ view modes full. refl; hands = λ view modes full n. refl }
-alike (names port) b c h = record { judges = λ view modes full. refl; hands = λ view modes full n. refl }
-alike (attach port device) b c h = record { judges = λ view modes full. refl; hands = λ view modes full n. refl }
-alike (attachVirtual port device x y) b c h = record { judges = λ view modes full. refl; hands = λ view modes full n. refl }
-alike (detach port) b c h = record { judges = λ view modes full. refl; hands = λ view modes full n. refl }
-alike (setFormat port mode f) b c h = record { judges = λ view modes full. refl; hands = λ view modes full n. refl }
-alike (answer port s) b c h = record { judges = λ view modes full. refl; hands = λ view modes full n. refl }
-alike (ask port s) b c h = record { judges = λ view modes full. refl; hands = λ view modes full n. refl }
-alike (value port) b c h = let z : _≡_ {A = ℕ} 0 1 = cc in absurd (omega arith)
-alike (disconnect port) b c h = record { judges = λ view modes full. refl; hands = λ view modes full n. refl }
-alike (connect x y) b c h = record { judges = λ view modes full. refl; hands = λ view modes full n. refl }
-alike empty b c h = record { judges = λ view modes full. refl; hands = λ view modes full n. refl }
+alike Nothing b c h = record { judges = λ ports. refl; hands = λ ports n. refl }
+alike (ToPort port x) b c h = record { judges = λ ports. refl; hands = λ ports n. refl }
+alike (Attach port device) b c h = record { judges = λ ports. refl; hands = λ ports n. refl }
+alike (AttachVirtual port device x y) b c h = record { judges = λ ports. refl; hands = λ ports n. refl }
+alike (Detach port) b c h = record { judges = λ ports. refl; hands = λ ports n. refl }
+alike (Value port) b c h = let z : _≡_ {A = ℕ} 0 1 = cc in absurd (omega arith)
+alike (Disconnect port) b c h = record { judges = λ ports. refl; hands = λ ports n. refl }
+alike (Connect x y) b c h = record { judges = λ ports. refl; hands = λ ports n. refl }
+alike Empty b c h = record { judges = λ ports. refl; hands = λ ports n. refl }
 
-action-alike : (x : Bool) → isValue (cond x empty nothing) ≡ false
+action-alike : (x : Bool) → isValue (cond x Empty Nothing) ≡ false
 action-alike true = refl
 action-alike false = refl
 
@@ -97,7 +91,7 @@ open-alike m s =
     ⊎-elim
     (λ (h : isValue (effectOf m) ≡ false). alike (effectOf m) (openOf s (accepted (formOf m) (valuesOf m))) (drop 4 s) h)
     (λ (e : openOf s (accepted (formOf m) (valuesOf m)) ≡ drop 4 s). record {
-      judges = λ view modes full. ap (λ (b : List ℕ). judge view modes full (effectOf m) (length b)) e;
-      hands = λ view modes full n. ap (λ (b : List ℕ). hand view modes full (effectOf m) b n) e;
+      judges = λ ports. ap (λ (b : List ℕ). judge ports (effectOf m) (length b)) e;
+      hands = λ ports n. ap (λ (b : List ℕ). hand ports (effectOf m) b n) e;
     })
     (value-bytes m s)

@@ -9,7 +9,7 @@ use native.Mathlib.Omega.{arith}
 use borrow.Author.Tests.{eqb-true, eqb-false, eq-eqb, ne-eqb}
 use lib.Dec.{eqb}
 use Rattle.protocol.proofs.Tests.{which}
-use Rattle.rules.specs.Facts.{Wiring, unjoined, joined, virtual}
+use Rattle.rules.specs.Facts.{Wiring, Unjoined, Joined, Virtual}
 
 abbrev pub Wired : Type 0
 Wired = ℕ → Option Wiring
@@ -34,14 +34,14 @@ put-other p x w q n = rw (ne-eqb p q n)
 pub record Named (w : Wired) (p v : ℕ) : Type 0 where
   pub a : ℕ
   pub b : ℕ
-  pub pair : w v ≡ some (virtual a b)
+  pub pair : w v ≡ some (Virtual a b)
   pub member : (a ≡ p) ⊎ (b ≡ p)
 
 pub record Pairs (w : Wired) : Type 0 where
-  pub up : (p v : ℕ) → w p ≡ some (joined v) → Named w p v
-  pub first : (v a b : ℕ) → w v ≡ some (virtual a b) → w a ≡ some (joined v)
-  pub second : (v a b : ℕ) → w v ≡ some (virtual a b) → w b ≡ some (joined v)
-  pub apart : (v a b : ℕ) → w v ≡ some (virtual a b) → a ≡ b → ⊥
+  pub up : (p v : ℕ) → w p ≡ some (Joined v) → Named w p v
+  pub first : (v a b : ℕ) → w v ≡ some (Virtual a b) → w a ≡ some (Joined v)
+  pub second : (v a b : ℕ) → w v ≡ some (Virtual a b) → w b ≡ some (Joined v)
+  pub apart : (v a b : ℕ) → w v ≡ some (Virtual a b) → a ≡ b → ⊥
 
 clash : {A : Type 0} → _≡_ {A = ℕ} 0 1 → A
 clash e = absurd (omega arith)
@@ -49,10 +49,10 @@ clash e = absurd (omega arith)
 -- no port at all
 pub pairs-none : (w : Wired) → ((q : ℕ) → w q ≡ none) → Pairs w
 pairs-none w e = record {
-  up = λ p v k. never p (joined v) k;
-  first = λ v a b k. never v (virtual a b) k;
-  second = λ v a b k. never v (virtual a b) k;
-  apart = λ v a b k. never v (virtual a b) k;
+  up = λ p v k. never p (Joined v) k;
+  first = λ v a b k. never v (Virtual a b) k;
+  second = λ v a b k. never v (Virtual a b) k;
+  apart = λ v a b k. never v (Virtual a b) k;
 }
   where
     never : {A : Type 0} (q : ℕ) (y : Wiring) → w q ≡ some y → A
@@ -68,28 +68,28 @@ none-some x e = let z : _≡_ {A = ℕ} 0 1 = cc in clash z
 pub some-none : (x : Wiring) → some x ≡ none → ⊥
 some-none x e = let z : _≡_ {A = ℕ} 0 1 = cc in clash z
 
-pub unjoined-joined : (v : ℕ) → some unjoined ≡ some (joined v) → ⊥
+pub unjoined-joined : (v : ℕ) → some Unjoined ≡ some (Joined v) → ⊥
 unjoined-joined v e = let z : _≡_ {A = ℕ} 0 1 = cc in clash z
 
-pub unjoined-virtual : (a b : ℕ) → some unjoined ≡ some (virtual a b) → ⊥
+pub unjoined-virtual : (a b : ℕ) → some Unjoined ≡ some (Virtual a b) → ⊥
 unjoined-virtual a b e = let z : _≡_ {A = ℕ} 0 1 = cc in clash z
 
-pub joined-virtual : (v a b : ℕ) → some (joined v) ≡ some (virtual a b) → ⊥
+pub joined-virtual : (v a b : ℕ) → some (Joined v) ≡ some (Virtual a b) → ⊥
 joined-virtual v a b e = let z : _≡_ {A = ℕ} 0 1 = cc in clash z
 
 -- a port whose wiring is none or unjoined is no partner of another; so what changes there leaves the others' as they were
-module _ (w : Wired) (s : Pairs w) (p : ℕ) (loose : (w p ≡ none) ⊎ (w p ≡ some unjoined)) (x : Option Wiring) (new : (x ≡ none) ⊎ (x ≡ some unjoined)) where
-  not-joined : (v : ℕ) → w p ≡ some (joined v) → ⊥
-  not-joined v e = ⊎-elim (λ (k : w p ≡ none). none-some (joined v) (sym k ∙ e)) (λ (k : w p ≡ some unjoined). unjoined-joined v (sym k ∙ e)) loose
+module _ (w : Wired) (s : Pairs w) (p : ℕ) (loose : (w p ≡ none) ⊎ (w p ≡ some Unjoined)) (x : Option Wiring) (new : (x ≡ none) ⊎ (x ≡ some Unjoined)) where
+  not-joined : (v : ℕ) → w p ≡ some (Joined v) → ⊥
+  not-joined v e = ⊎-elim (λ (k : w p ≡ none). none-some (Joined v) (sym k ∙ e)) (λ (k : w p ≡ some Unjoined). unjoined-joined v (sym k ∙ e)) loose
 
-  not-pair : (a b : ℕ) → w p ≡ some (virtual a b) → ⊥
-  not-pair a b e = ⊎-elim (λ (k : w p ≡ none). none-some (virtual a b) (sym k ∙ e)) (λ (k : w p ≡ some unjoined). unjoined-virtual a b (sym k ∙ e)) loose
+  not-pair : (a b : ℕ) → w p ≡ some (Virtual a b) → ⊥
+  not-pair a b e = ⊎-elim (λ (k : w p ≡ none). none-some (Virtual a b) (sym k ∙ e)) (λ (k : w p ≡ some Unjoined). unjoined-virtual a b (sym k ∙ e)) loose
 
-  new-joined : (v : ℕ) → x ≡ some (joined v) → ⊥
-  new-joined v e = ⊎-elim (λ (k : x ≡ none). none-some (joined v) (sym k ∙ e)) (λ (k : x ≡ some unjoined). unjoined-joined v (sym k ∙ e)) new
+  new-joined : (v : ℕ) → x ≡ some (Joined v) → ⊥
+  new-joined v e = ⊎-elim (λ (k : x ≡ none). none-some (Joined v) (sym k ∙ e)) (λ (k : x ≡ some Unjoined). unjoined-joined v (sym k ∙ e)) new
 
-  new-pair : (a b : ℕ) → x ≡ some (virtual a b) → ⊥
-  new-pair a b e = ⊎-elim (λ (k : x ≡ none). none-some (virtual a b) (sym k ∙ e)) (λ (k : x ≡ some unjoined). unjoined-virtual a b (sym k ∙ e)) new
+  new-pair : (a b : ℕ) → x ≡ some (Virtual a b) → ⊥
+  new-pair a b e = ⊎-elim (λ (k : x ≡ none). none-some (Virtual a b) (sym k ∙ e)) (λ (k : x ≡ some Unjoined). unjoined-virtual a b (sym k ∙ e)) new
 
   -- what is joined or virtual afterwards was so before
   old : (q : ℕ) (y : Wiring) → (x ≡ some y → ⊥) → put p x w q ≡ some y → w q ≡ some y
@@ -106,11 +106,11 @@ module _ (w : Wired) (s : Pairs w) (p : ℕ) (loose : (w p ≡ none) ⊎ (w p �
   pairs-loose = record {
     up =
         λ q v e.
-        let named = s .up q v (old q (joined v) (new-joined v) e) in
-        record { a = named .a; b = named .b; pair = still v (virtual (named .a) (named .b)) (not-pair (named .a) (named .b)) (named .pair); member = named .member };
-    first = λ v a b e. still a (joined v) (not-joined v) (s .first v a b (old v (virtual a b) (new-pair a b) e));
-    second = λ v a b e. still b (joined v) (not-joined v) (s .second v a b (old v (virtual a b) (new-pair a b) e));
-    apart = λ v a b e. s .apart v a b (old v (virtual a b) (new-pair a b) e);
+        let named = s .up q v (old q (Joined v) (new-joined v) e) in
+        record { a = named .a; b = named .b; pair = still v (Virtual (named .a) (named .b)) (not-pair (named .a) (named .b)) (named .pair); member = named .member };
+    first = λ v a b e. still a (Joined v) (not-joined v) (s .first v a b (old v (Virtual a b) (new-pair a b) e));
+    second = λ v a b e. still b (Joined v) (not-joined v) (s .second v a b (old v (Virtual a b) (new-pair a b) e));
+    apart = λ v a b e. s .apart v a b (old v (Virtual a b) (new-pair a b) e);
   }
 
 -- ---- three ports at once: a virtual port and its members
@@ -152,79 +152,79 @@ module _ (w : Wired) (p a b : ℕ) (x y : Option Wiring) (pa : p ≡ a → ⊥) 
   pub elsewhere : (q : ℕ) → (p ≡ q → ⊥) → (a ≡ q → ⊥) → (b ≡ q → ⊥) → three p a b x y w q ≡ w q
   elsewhere q np na nb = put-other p x (put b y (put a y w)) q np ∙ put-other b y (put a y w) q nb ∙ put-other a y w q na
 
-pub joined-same : (u v : ℕ) → some (joined u) ≡ some (joined v) → u ≡ v
+pub joined-same : (u v : ℕ) → some (Joined u) ≡ some (Joined v) → u ≡ v
 joined-same u v e = cc
 
-virtual-first : (a b c d : ℕ) → some (virtual a b) ≡ some (virtual c d) → a ≡ c
+virtual-first : (a b c d : ℕ) → some (Virtual a b) ≡ some (Virtual c d) → a ≡ c
 virtual-first a b c d e = cc
 
-virtual-second : (a b c d : ℕ) → some (virtual a b) ≡ some (virtual c d) → b ≡ d
+virtual-second : (a b c d : ℕ) → some (Virtual a b) ≡ some (Virtual c d) → b ≡ d
 virtual-second a b c d e = cc
 
 -- ---- a virtual port comes
 
-module _ (w : Wired) (s : Pairs w) (p a b : ℕ) (fresh : w p ≡ none) (one : w a ≡ some unjoined) (two : w b ≡ some unjoined) (ab : a ≡ b → ⊥) where
+module _ (w : Wired) (s : Pairs w) (p a b : ℕ) (fresh : w p ≡ none) (one : w a ≡ some Unjoined) (two : w b ≡ some Unjoined) (ab : a ≡ b → ⊥) where
   pa : p ≡ a → ⊥
-  pa e = none-some unjoined (sym fresh ∙ ap w e ∙ one)
+  pa e = none-some Unjoined (sym fresh ∙ ap w e ∙ one)
 
   pb : p ≡ b → ⊥
-  pb e = none-some unjoined (sym fresh ∙ ap w e ∙ two)
+  pb e = none-some Unjoined (sym fresh ∙ ap w e ∙ two)
 
   abbrev w′ : Wired
-  w′ = three p a b (some (virtual a b)) (some (joined p)) w
+  w′ = three p a b (some (Virtual a b)) (some (Joined p)) w
 
   -- a port that was joined or virtual is none of the three
-  kept : (q : ℕ) (z : Wiring) → (unjoined ≡ z → ⊥) → w q ≡ some z → w′ q ≡ some z
+  kept : (q : ℕ) (z : Wiring) → (Unjoined ≡ z → ⊥) → w q ≡ some z → w′ q ≡ some z
   kept q z n e =
-      elsewhere w p a b (some (virtual a b)) (some (joined p)) pa pb q (λ (k : p ≡ q). none-some z (sym fresh ∙ ap w k ∙ e)) (λ (k : a ≡ q). n (inner (sym one ∙ ap w k ∙ e)))
+      elsewhere w p a b (some (Virtual a b)) (some (Joined p)) pa pb q (λ (k : p ≡ q). none-some z (sym fresh ∙ ap w k ∙ e)) (λ (k : a ≡ q). n (inner (sym one ∙ ap w k ∙ e)))
       (λ (k : b ≡ q). n (inner (sym two ∙ ap w k ∙ e)))
       ∙ e
     where
-      inner : some unjoined ≡ some z → unjoined ≡ z
+      inner : some Unjoined ≡ some z → Unjoined ≡ z
       inner k = cc
 
   was : (q : ℕ) (z : Option Wiring) → (p ≡ q → ⊥) → (a ≡ q → ⊥) → (b ≡ q → ⊥) → w′ q ≡ z → w q ≡ z
-  was q z np na nb e = sym (elsewhere w p a b (some (virtual a b)) (some (joined p)) pa pb q np na nb) ∙ e
+  was q z np na nb e = sym (elsewhere w p a b (some (Virtual a b)) (some (Joined p)) pa pb q np na nb) ∙ e
 
-  not-joined-unjoined : (v : ℕ) → unjoined ≡ joined v → ⊥
+  not-joined-unjoined : (v : ℕ) → Unjoined ≡ Joined v → ⊥
   not-joined-unjoined v e = unjoined-joined v (ap some e)
 
-  not-virtual-unjoined : (c d : ℕ) → unjoined ≡ virtual c d → ⊥
+  not-virtual-unjoined : (c d : ℕ) → Unjoined ≡ Virtual c d → ⊥
   not-virtual-unjoined c d e = unjoined-virtual c d (ap some e)
 
   -- the members are named by the new port
-  member-named : (q v : ℕ) → (a ≡ q) ⊎ (b ≡ q) → w′ q ≡ some (joined p) → w′ q ≡ some (joined v) → Named w′ q v
+  member-named : (q v : ℕ) → (a ≡ q) ⊎ (b ≡ q) → w′ q ≡ some (Joined p) → w′ q ≡ some (Joined v) → Named w′ q v
   member-named q v m here e =
-      record { a = a; b = b; pair = at-port w p a b (some (virtual a b)) (some (joined p)) pa pb v (joined-same p v (sym here ∙ e)); member = m }
+      record { a = a; b = b; pair = at-port w p a b (some (Virtual a b)) (some (Joined p)) pa pb v (joined-same p v (sym here ∙ e)); member = m }
 
-  up-new : (q v : ℕ) → Among p a b q → w′ q ≡ some (joined v) → Named w′ q v
-  up-new q v (is-port k) e = absurd (joined-virtual v a b (sym e ∙ at-port w p a b (some (virtual a b)) (some (joined p)) pa pb q k))
-  up-new q v (is-first k) e = member-named q v (inl k) (at-first w p a b (some (virtual a b)) (some (joined p)) pa pb q k) e
-  up-new q v (is-second k) e = member-named q v (inr k) (at-second w p a b (some (virtual a b)) (some (joined p)) pa pb q k) e
+  up-new : (q v : ℕ) → Among p a b q → w′ q ≡ some (Joined v) → Named w′ q v
+  up-new q v (is-port k) e = absurd (joined-virtual v a b (sym e ∙ at-port w p a b (some (Virtual a b)) (some (Joined p)) pa pb q k))
+  up-new q v (is-first k) e = member-named q v (inl k) (at-first w p a b (some (Virtual a b)) (some (Joined p)) pa pb q k) e
+  up-new q v (is-second k) e = member-named q v (inr k) (at-second w p a b (some (Virtual a b)) (some (Joined p)) pa pb q k) e
   up-new q v (other np na nb) e =
-      let named = s .up q v (was q (some (joined v)) np na nb e) in
-      record { a = named .a; b = named .b; pair = kept v (virtual (named .a) (named .b)) (not-virtual-unjoined (named .a) (named .b)) (named .pair); member = named .member }
+      let named = s .up q v (was q (some (Joined v)) np na nb e) in
+      record { a = named .a; b = named .b; pair = kept v (Virtual (named .a) (named .b)) (not-virtual-unjoined (named .a) (named .b)) (named .pair); member = named .member }
 
   -- a pair afterwards is the new one or an old one
   data Pair (v c d : ℕ) : Type 0 where
     newer : p ≡ v → a ≡ c → b ≡ d → Pair v c d
-    older : w v ≡ some (virtual c d) → Pair v c d
+    older : w v ≡ some (Virtual c d) → Pair v c d
 
-  pair-of : (v c d : ℕ) → Among p a b v → w′ v ≡ some (virtual c d) → Pair v c d
+  pair-of : (v c d : ℕ) → Among p a b v → w′ v ≡ some (Virtual c d) → Pair v c d
   pair-of v c d (is-port k) e =
-      let same = sym (at-port w p a b (some (virtual a b)) (some (joined p)) pa pb v k) ∙ e in
+      let same = sym (at-port w p a b (some (Virtual a b)) (some (Joined p)) pa pb v k) ∙ e in
       newer k (virtual-first a b c d same) (virtual-second a b c d same)
-  pair-of v c d (is-first k) e = absurd (joined-virtual p c d (sym (at-first w p a b (some (virtual a b)) (some (joined p)) pa pb v k) ∙ e))
-  pair-of v c d (is-second k) e = absurd (joined-virtual p c d (sym (at-second w p a b (some (virtual a b)) (some (joined p)) pa pb v k) ∙ e))
-  pair-of v c d (other np na nb) e = older (was v (some (virtual c d)) np na nb e)
+  pair-of v c d (is-first k) e = absurd (joined-virtual p c d (sym (at-first w p a b (some (Virtual a b)) (some (Joined p)) pa pb v k) ∙ e))
+  pair-of v c d (is-second k) e = absurd (joined-virtual p c d (sym (at-second w p a b (some (Virtual a b)) (some (Joined p)) pa pb v k) ∙ e))
+  pair-of v c d (other np na nb) e = older (was v (some (Virtual c d)) np na nb e)
 
-  first-new : (v c d : ℕ) → Pair v c d → w′ c ≡ some (joined v)
-  first-new v c d (newer k i j) = at-first w p a b (some (virtual a b)) (some (joined p)) pa pb c i ∙ ap (λ (n : ℕ). some (joined n)) k
-  first-new v c d (older e) = kept c (joined v) (not-joined-unjoined v) (s .first v c d e)
+  first-new : (v c d : ℕ) → Pair v c d → w′ c ≡ some (Joined v)
+  first-new v c d (newer k i j) = at-first w p a b (some (Virtual a b)) (some (Joined p)) pa pb c i ∙ ap (λ (n : ℕ). some (Joined n)) k
+  first-new v c d (older e) = kept c (Joined v) (not-joined-unjoined v) (s .first v c d e)
 
-  second-new : (v c d : ℕ) → Pair v c d → w′ d ≡ some (joined v)
-  second-new v c d (newer k i j) = at-second w p a b (some (virtual a b)) (some (joined p)) pa pb d j ∙ ap (λ (n : ℕ). some (joined n)) k
-  second-new v c d (older e) = kept d (joined v) (not-joined-unjoined v) (s .second v c d e)
+  second-new : (v c d : ℕ) → Pair v c d → w′ d ≡ some (Joined v)
+  second-new v c d (newer k i j) = at-second w p a b (some (Virtual a b)) (some (Joined p)) pa pb d j ∙ ap (λ (n : ℕ). some (Joined n)) k
+  second-new v c d (older e) = kept d (Joined v) (not-joined-unjoined v) (s .second v c d e)
 
   apart-new : (v c d : ℕ) → Pair v c d → c ≡ d → ⊥
   apart-new v c d (newer k i j) e = ab (i ∙ e ∙ sym j)
@@ -240,11 +240,11 @@ module _ (w : Wired) (s : Pairs w) (p a b : ℕ) (fresh : w p ≡ none) (one : w
 
 -- ---- a virtual port goes, and its members are freed
 
-module _ (w : Wired) (s : Pairs w) (p a b : ℕ) (here : w p ≡ some (virtual a b)) where
-  abbrev one : w a ≡ some (joined p)
+module _ (w : Wired) (s : Pairs w) (p a b : ℕ) (here : w p ≡ some (Virtual a b)) where
+  abbrev one : w a ≡ some (Joined p)
   one = s .first p a b here
 
-  abbrev two : w b ≡ some (joined p)
+  abbrev two : w b ≡ some (Joined p)
   two = s .second p a b here
 
   pub port-first : p ≡ a → ⊥
@@ -254,22 +254,22 @@ module _ (w : Wired) (s : Pairs w) (p a b : ℕ) (here : w p ≡ some (virtual a
   port-second e = joined-virtual p a b (sym two ∙ sym (ap w e) ∙ here)
 
   abbrev without : Wired
-  without = three p a b none (some unjoined) w
+  without = three p a b none (some Unjoined) w
 
   abbrev gone : (q : ℕ) → p ≡ q → without q ≡ none
-  gone q k = at-port w p a b none (some unjoined) port-first port-second q k
+  gone q k = at-port w p a b none (some Unjoined) port-first port-second q k
 
-  abbrev free-first : (q : ℕ) → a ≡ q → without q ≡ some unjoined
-  free-first q k = at-first w p a b none (some unjoined) port-first port-second q k
+  abbrev free-first : (q : ℕ) → a ≡ q → without q ≡ some Unjoined
+  free-first q k = at-first w p a b none (some Unjoined) port-first port-second q k
 
-  abbrev free-second : (q : ℕ) → b ≡ q → without q ≡ some unjoined
-  free-second q k = at-second w p a b none (some unjoined) port-first port-second q k
+  abbrev free-second : (q : ℕ) → b ≡ q → without q ≡ some Unjoined
+  free-second q k = at-second w p a b none (some Unjoined) port-first port-second q k
 
   abbrev rest : (q : ℕ) → (p ≡ q → ⊥) → (a ≡ q → ⊥) → (b ≡ q → ⊥) → without q ≡ w q
-  rest q np na nb = elsewhere w p a b none (some unjoined) port-first port-second q np na nb
+  rest q np na nb = elsewhere w p a b none (some Unjoined) port-first port-second q np na nb
 
   -- who names a port that is no member of p is not p, and stays
-  name-stays : (q v c d : ℕ) → (a ≡ q → ⊥) → (b ≡ q → ⊥) → w v ≡ some (virtual c d) → (c ≡ q) ⊎ (d ≡ q) → without v ≡ some (virtual c d)
+  name-stays : (q v c d : ℕ) → (a ≡ q → ⊥) → (b ≡ q → ⊥) → w v ≡ some (Virtual c d) → (c ≡ q) ⊎ (d ≡ q) → without v ≡ some (Virtual c d)
   name-stays q v c d na nb e m =
       rest v
       (λ (k : p ≡ v).
@@ -280,14 +280,14 @@ module _ (w : Wired) (s : Pairs w) (p a b : ℕ) (here : w p ≡ some (virtual a
       ∙ e
 
   -- a member of another virtual port stays joined
-  joined-stays : (q v : ℕ) → (p ≡ v → ⊥) → w q ≡ some (joined v) → without q ≡ some (joined v)
+  joined-stays : (q v : ℕ) → (p ≡ v → ⊥) → w q ≡ some (Joined v) → without q ≡ some (Joined v)
   joined-stays q v np e =
       rest q (λ (k : p ≡ q). joined-virtual v a b (sym e ∙ sym (ap w k) ∙ here)) (λ (k : a ≡ q). np (joined-same p v (sym one ∙ ap w k ∙ e)))
       (λ (k : b ≡ q). np (joined-same p v (sym two ∙ ap w k ∙ e)))
       ∙ e
 
-  up-without : (q v : ℕ) → Among p a b q → without q ≡ some (joined v) → Named without q v
-  up-without q v (is-port k) e = absurd (none-some (joined v) (sym (gone q k) ∙ e))
+  up-without : (q v : ℕ) → Among p a b q → without q ≡ some (Joined v) → Named without q v
+  up-without q v (is-port k) e = absurd (none-some (Joined v) (sym (gone q k) ∙ e))
   up-without q v (is-first k) e = absurd (unjoined-joined v (sym (free-first q k) ∙ e))
   up-without q v (is-second k) e = absurd (unjoined-joined v (sym (free-second q k) ∙ e))
   up-without q v (other np na nb) e =
@@ -296,10 +296,10 @@ module _ (w : Wired) (s : Pairs w) (p a b : ℕ) (here : w p ≡ some (virtual a
 
   pub record Before (v c d : ℕ) : Type 0 where
     pub not-port : p ≡ v → ⊥
-    pub was-pair : w v ≡ some (virtual c d)
+    pub was-pair : w v ≡ some (Virtual c d)
 
-  pair-before : (v c d : ℕ) → Among p a b v → without v ≡ some (virtual c d) → Before v c d
-  pair-before v c d (is-port k) e = absurd (none-some (virtual c d) (sym (gone v k) ∙ e))
+  pair-before : (v c d : ℕ) → Among p a b v → without v ≡ some (Virtual c d) → Before v c d
+  pair-before v c d (is-port k) e = absurd (none-some (Virtual c d) (sym (gone v k) ∙ e))
   pair-before v c d (is-first k) e = absurd (unjoined-virtual c d (sym (free-first v k) ∙ e))
   pair-before v c d (is-second k) e = absurd (unjoined-virtual c d (sym (free-second v k) ∙ e))
   pair-before v c d (other np na nb) e = record { not-port = np; was-pair = sym (rest v np na nb) ∙ e }

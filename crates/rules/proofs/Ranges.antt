@@ -18,7 +18,7 @@ use Rattle.protocol.proofs.FieldTrip.{taken-good, never, step-after}
 use Rattle.protocol.proofs.FieldsTrip.{one-step}
 use Rattle.protocol.proofs.FormTrip.{was-written, form-written}
 use Rattle.protocol.proofs.RoundTrip.{form-accepted}
-use Rattle.rules.specs.Effect.{empty, nothing, effectOf}
+use Rattle.rules.specs.Effect.{Empty, Nothing, effectOf}
 use Rattle.rules.specs.Ranges.{effectFits}
 
 -- a number that fits its width and is in its list
@@ -61,7 +61,7 @@ all-listed (fixed bytes ∷ fs) place vs bs ws e =
     rw (step-after (fixed bytes) vs (r .first) (r .left) (r .first-is)) (all-listed fs (place + width (fixed bytes)) (r .left) (r .second) ws (r .second-is))
 
 -- 02 empties the table or does nothing
-either-fits : (b : Bool) → effectFits (cond b empty nothing) ≡ true
+either-fits : (b : Bool) → effectFits (cond b Empty Nothing) ≡ true
 either-fits true = refl
 either-fits false = refl
 

@@ -1,5 +1,5 @@
 -- A well formed table, as facts about its ports; every change keeps it so.
-use Prim.Native.Nat.{ℕ, _≤_, _<_}
+use Prim.Native.Nat.{ℕ, _<_}
 use mathlib.Core.Path.{_≡_, refl, _∙_, ap}
 use mathlib.Core.Bool.{Bool, true, false, _&&_, _||_}
 use mathlib.Core.List.{[], _∷_}
@@ -9,10 +9,12 @@ use native.Mathlib.Omega.{arith}
 use borrow.Author.Tests.{eq-eqb, ne-eqb, lt-ltb}
 use lib.Dec.{eqb, ltb}
 use lib.ListN.{length}
-use Rattle.rules.specs.Facts.{Wiring, unjoined, joined, virtual, Facts, known}
+use Rattle.rules.specs.Layout.{portCount, places}
+use Rattle.rules.specs.Facts.{Wiring, Unjoined, Joined, Virtual, Facts, known}
 use Rattle.rules.specs.Table.{Record, Table, viewOfTable}
-use Rattle.rules.specs.WellFormed.{joinedTo, isJoinedTo, pairWith, isPairWith, wiringFits, factsFit, recordFits, placesFit, wellFormed}
+use Rattle.rules.specs.WellFormed.{joinedTo, isJoinedTo, pairWith, isPairWith, wiringFits, recordFits, placesFit, wellFormed}
 use Rattle.rules.proofs.Pairs.{Wired, Pairs}
+use Rattle.rules.proofs.SettingsFit.{Fits}
 
 abbrev pub wiring? : Option Facts → Option Wiring
 wiring? none = none
@@ -29,13 +31,13 @@ Distinct (some r ∷ t) = (known (viewOfTable t (r .port)) ≡ false) × Distinc
 
 -- a port's facts by themselves
 pub record Fit (p : ℕ) (f : Facts) : Type 0 where
-  pub small : p < 256
-  pub lists : factsFit f ≡ true
-  pub high : (m : ℕ) → 16 ≤ m → f .formats m ≡ none
+  pub small : p < portCount
+  pub device : ltb (f .device) 65536 ≡ true
+  pub settings : Fits (f .settings)
 
 -- all but who is joined to whom
 pub record Loose (t : Table) : Type 0 where
-  pub size : length t ≡ 16
+  pub size : length t ≡ places
   pub distinct : Distinct t
   pub fit : (p : ℕ) (f : Facts) → viewOfTable t p ≡ some f → Fit p f
 
@@ -53,9 +55,9 @@ pub seen : (x : Option Facts) (y : Wiring) → wiring? x ≡ some y → Seen x y
 seen none y e = let z : _≡_ {A = ℕ} 0 1 = cc in absurd (omega arith)
 seen (some f) y e = record { facts = f; is = refl; wired = cc }
 
-joined-to : (x : Option Facts) (v : ℕ) → wiring? x ≡ some (joined v) → isJoinedTo v x ≡ true
+joined-to : (x : Option Facts) (v : ℕ) → wiring? x ≡ some (Joined v) → isJoinedTo v x ≡ true
 joined-to x v e =
-    let s = seen x (joined v) e in
+    let s = seen x (Joined v) e in
     ap (isJoinedTo v) (s .is) ∙ ap (joinedTo v) (s .wired) ∙ eq-eqb v v refl
 
 pub or-either : (a b p : ℕ) → (a ≡ p) ⊎ (b ≡ p) → (eqb a p || eqb b p) ≡ true
@@ -66,9 +68,9 @@ or-either a b p (inr e) = last (eqb a p) (eqb b p) (eq-eqb b p e)
     last true y k = refl
     last false y k = k
 
-pair-with : (x : Option Facts) (a b p : ℕ) → wiring? x ≡ some (virtual a b) → (a ≡ p) ⊎ (b ≡ p) → isPairWith p x ≡ true
+pair-with : (x : Option Facts) (a b p : ℕ) → wiring? x ≡ some (Virtual a b) → (a ≡ p) ⊎ (b ≡ p) → isPairWith p x ≡ true
 pair-with x a b p e m =
-    let s = seen x (virtual a b) e in
+    let s = seen x (Virtual a b) e in
     ap (isPairWith p) (s .is) ∙ ap (pairWith p) (s .wired) ∙ or-either a b p m
 
 both : (a b : Bool) → a ≡ true → b ≡ true → (a && b) ≡ true
@@ -86,25 +88,25 @@ found-later r u fresh p f e =
     e
 
 module _ (t : Table) (s : Sound t) where
-  small-port : (q : ℕ) (y : Wiring) → wiredIn t q ≡ some y → ltb q 256 ≡ true
+  small-port : (q : ℕ) (y : Wiring) → wiredIn t q ≡ some y → ltb q portCount ≡ true
   small-port q y e =
       let k = seen (viewOfTable t q) y e in
-      lt-ltb q 256 (s .loose .fit q (k .facts) (k .is) .small)
+      lt-ltb q portCount (s .loose .fit q (k .facts) (k .is) .small)
 
   pub wiring-fits : (p : ℕ) (y : Wiring) → wiredIn t p ≡ some y → wiringFits (viewOfTable t) p y ≡ true
-  wiring-fits p unjoined e = refl
-  wiring-fits p (joined v) e =
+  wiring-fits p Unjoined e = refl
+  wiring-fits p (Joined v) e =
       let n = s .pairs .up p v e in
-      both (ltb v 256) (isPairWith p (viewOfTable t v)) (small-port v (virtual (n .a) (n .b)) (n .pair)) (pair-with (viewOfTable t v) (n .a) (n .b) p (n .pair) (n .member))
-  wiring-fits p (virtual a b) e =
+      both (ltb v portCount) (isPairWith p (viewOfTable t v)) (small-port v (Virtual (n .a) (n .b)) (n .pair)) (pair-with (viewOfTable t v) (n .a) (n .b) p (n .pair) (n .member))
+  wiring-fits p (Virtual a b) e =
       let one = s .pairs .first p a b e in
       let two = s .pairs .second p a b e in
-      rw (small-port a (joined p) one, small-port b (joined p) two, ne-eqb a b (s .pairs .apart p a b e), joined-to (viewOfTable t a) p one, joined-to (viewOfTable t b) p two)
+      rw (small-port a (Joined p) one, small-port b (Joined p) two, ne-eqb a b (s .pairs .apart p a b e), joined-to (viewOfTable t a) p one, joined-to (viewOfTable t b) p two)
 
   record-fits : (r : Record) → viewOfTable t (r .port) ≡ some (r .facts) → recordFits (viewOfTable t) r ≡ true
   record-fits r e =
       let k = s .loose .fit (r .port) (r .facts) e in
-      rw (lt-ltb (r .port) 256 (k .small), k .lists) (wiring-fits (r .port) (r .facts .wiring) (ap wiring? e))
+      rw (lt-ltb (r .port) portCount (k .small), k .device, k .settings .lists) (wiring-fits (r .port) (r .facts .wiring) (ap wiring? e))
 
   -- of a part of the table whose records are found by their ports
   places-fit : (u : Table) → Distinct u → ((p : ℕ) (f : Facts) → viewOfTable u p ≡ some f → viewOfTable t p ≡ some f) → placesFit (viewOfTable t) u ≡ true

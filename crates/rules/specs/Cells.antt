@@ -1,10 +1,4 @@
--- How the table lies in cells, each a number below 2 ^ 32: sixteen records of 28 cells.
---   0 wiring: 0 free, 1 physical and unjoined, 2 physical and joined, 3 virtual
---   1 port, 2 device
---   3 a joined port's virtual port, or a virtual port's first member; 4 its second member
---   5 state
---   6 asked mode plus one (0: nothing asked), 7 its delta, 8 its notify; 9, 10, 11 the same of what was answered
---   12 .. 27 the format of each mode: 0 none, else its four bytes, the first the least significant
+-- How the table lies in cells, each a number below 2 ^ 32: sixteen records, each as Layout.antt says.
 use Prim.Native.Nat.{ℕ, zero, suc, _+_, _*_, _/_, _%_}
 use mathlib.Core.Bool.{Bool, true, false, cond, _&&_}
 use mathlib.Core.List.{List, [], _∷_, _++_}
@@ -12,15 +6,10 @@ use mathlib.Core.Option.{Option, none, some}
 use lib.Dec.{eqb}
 use lib.ListN.{getD, take, drop, replicate}
 use Rattle.protocol.specs.Form.{upFrom}
-use Rattle.rules.specs.Facts.{Setup, Format, Wiring, unjoined, joined, virtual}
+use Rattle.rules.specs.Layout.{modeCount, places, stride, tableSize, wiringIndex, portIndex, deviceIndex, firstIndex, secondIndex, stateIndex, askedIndex, answeredIndex, formatsIndex}
+use Rattle.rules.specs.Facts.{Setup, Format, Wiring, Unjoined, Joined, Virtual, Settings}
 use Rattle.rules.specs.Table.{Record, Table}
 use Rattle.rules.specs.WellFormed.{wellFormed}
-
-abbrev pub places : ℕ
-places = 16
-
-abbrev pub stride : ℕ
-stride = 28
 
 -- a record's cells
 abbrev pub formatCell : Option Format → ℕ
@@ -32,32 +21,34 @@ setupCells none = 0 ∷ 0 ∷ 0 ∷ []
 setupCells (some s) = suc (s .mode) ∷ s .delta ∷ s .notify ∷ []
 
 abbrev pub wiringCell : Wiring → ℕ
-wiringCell unjoined = 1
-wiringCell (joined v) = 2
-wiringCell (virtual a b) = 3
+wiringCell Unjoined = 1
+wiringCell (Joined v) = 2
+wiringCell (Virtual a b) = 3
 
 abbrev pub firstPartner : Wiring → ℕ
-firstPartner unjoined = 0
-firstPartner (joined v) = v
-firstPartner (virtual a b) = a
+firstPartner Unjoined = 0
+firstPartner (Joined v) = v
+firstPartner (Virtual a b) = a
 
 abbrev pub secondPartner : Wiring → ℕ
-secondPartner unjoined = 0
-secondPartner (joined v) = 0
-secondPartner (virtual a b) = b
+secondPartner Unjoined = 0
+secondPartner (Joined v) = 0
+secondPartner (Virtual a b) = b
 
 abbrev pub formatCells : (ℕ → Option Format) → List ℕ → List ℕ
 formatCells formats [] = []
 formatCells formats (m ∷ ms) = formatCell (formats m) ∷ formatCells formats ms
 
 abbrev pub modes : List ℕ
-modes = upFrom 0 16
+modes = upFrom 0 modeCount
+
+abbrev pub settingsCells : Settings → List ℕ
+settingsCells s = s .state ∷ (setupCells (s .asked) ++ setupCells (s .answered) ++ formatCells (s .formats) modes)
 
 unfoldable pub recordCells : Record → List ℕ
 recordCells r =
     let f = r .facts in
-    wiringCell (f .wiring) ∷ r .port ∷ f .device ∷ firstPartner (f .wiring) ∷ secondPartner (f .wiring) ∷ f .state
-    ∷ (setupCells (f .asked) ++ setupCells (f .answered) ++ formatCells (f .formats) modes)
+    wiringCell (f .wiring) ∷ r .port ∷ f .device ∷ firstPartner (f .wiring) ∷ secondPartner (f .wiring) ∷ settingsCells (f .settings)
 
 abbrev pub placeCells : Option Record → List ℕ
 placeCells none = replicate stride 0
@@ -77,23 +68,35 @@ setupAt zero delta notify = none
 setupAt (suc m) delta notify = some (record { mode = m; delta = delta; notify = notify })
 
 abbrev pub wiringAt : ℕ → ℕ → ℕ → Wiring
-wiringAt kind a b = cond (eqb kind 1) unjoined (cond (eqb kind 2) (joined a) (virtual a b))
+wiringAt kind a b = cond (eqb kind 1) Unjoined (cond (eqb kind 2) (Joined a) (Virtual a b))
+
+abbrev pub cellAt : List ℕ → ℕ → ℕ
+cellAt c index = getD c index 0
+
+-- the three cells from an index on
+abbrev pub setupFrom : List ℕ → ℕ → Option Setup
+setupFrom c index = setupAt (cellAt c index) (cellAt c (index + 1)) (cellAt c (index + 2))
+
+abbrev pub settingsAt : List ℕ → Settings
+settingsAt c = record {
+  formats = λ mode. formatAt (cellAt (take modeCount (drop formatsIndex c)) mode);
+  answered = setupFrom c answeredIndex;
+  asked = setupFrom c askedIndex;
+  state = cellAt c stateIndex;
+}
 
 unfoldable pub recordAt : List ℕ → Record
 recordAt c = record {
-  port = getD c 1 0;
+  port = cellAt c portIndex;
   facts = record {
-    device = getD c 2 0;
-    wiring = wiringAt (getD c 0 0) (getD c 3 0) (getD c 4 0);
-    formats = λ mode. formatAt (getD (take 16 (drop 12 c)) mode 0);
-    answered = setupAt (getD c 9 0) (getD c 10 0) (getD c 11 0);
-    asked = setupAt (getD c 6 0) (getD c 7 0) (getD c 8 0);
-    state = getD c 5 0;
+    device = cellAt c deviceIndex;
+    wiring = wiringAt (cellAt c wiringIndex) (cellAt c firstIndex) (cellAt c secondIndex);
+    settings = settingsAt c;
   };
 }
 
 abbrev pub placeAt : List ℕ → Option Record
-placeAt c = cond (eqb (getD c 0 0) 0) none (some (recordAt c))
+placeAt c = cond (eqb (cellAt c wiringIndex) 0) none (some (recordAt c))
 
 abbrev pub placesAt : ℕ → List ℕ → Table
 placesAt zero cells = []
@@ -113,4 +116,4 @@ unfoldable pub sound : List ℕ → Bool
 sound cells = sameCells cells (cellsOf (tableAt cells)) && wellFormed (tableAt cells)
 
 unfoldable pub emptyCells : List ℕ
-emptyCells = replicate (places * stride) 0
+emptyCells = replicate tableSize 0

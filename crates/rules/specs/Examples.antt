@@ -1,10 +1,25 @@
--- Document 01's examples on ports, as statements about the reader without a table. Demand 3 carries them over to the table.
-use Prim.Native.Nat.{ℕ}
+-- Document 01's examples on ports, and some for each rule, as statements about the reader without a table, which demand 3
+-- carries over to the table; and on which tables are sound.
+use Prim.Native.Nat.{ℕ, _+_}
 use mathlib.Core.Path.{_≡_}
-use mathlib.Core.List.{List, [], _∷_}
+use mathlib.Core.Bool.{Bool, true, false}
+use mathlib.Core.List.{List, [], _∷_, _++_, map}
+use mathlib.Core.Option.{Option, none, some}
+use lib.Ieee.{fin}
+use lib.IntN.{pos}
+use lib.ListN.{length}
+use Rattle.protocol.specs.Form.{upFrom}
 use Rattle.protocol.specs.declared.Way.the-variants.{Down, Up}
-use Rattle.rules.specs.Offer.{Entry, Verdict, refused, accepts, offerPast, handPast}
-use Rattle.rules.specs.Value.{whole}
+use Rattle.rules.specs.Effect.{setup, Formatted}
+use Rattle.rules.specs.Facts.{Setup, Format, Wiring, Unjoined, Joined, Virtual, Facts}
+use Rattle.rules.specs.Learn.{bareSettings, learn}
+use Rattle.rules.specs.Offer.{Entry, Verdict, refused, accepts, offerPast, handPast, viewOfPast}
+use Rattle.rules.specs.Table.{Record, Table}
+use Rattle.rules.specs.Value.{Handed, whole, float}
+use Rattle.rules.specs.Value as Value
+use Rattle.rules.specs.WellFormed.{wellFormed}
+
+-- ---- messages
 
 abbrev up : List ℕ → Entry
 up s = record { way = Up; bytes = s }
@@ -12,43 +27,238 @@ up s = record { way = Up; bytes = s }
 abbrev down : List ℕ → Entry
 down s = record { way = Down; bytes = s }
 
--- 0 for accepted
+abbrev attached : ℕ → Entry
+attached port = up (0x0F ∷ 0x00 ∷ 0x04 ∷ port ∷ 0x01 ∷ 0x26 ∷ 0x00 ∷ 0x00 ∷ 0x00 ∷ 0x00 ∷ 0x10 ∷ 0x00 ∷ 0x00 ∷ 0x00 ∷ 0x10 ∷ [])
+
+abbrev virtual : ℕ → ℕ → ℕ → Entry
+virtual port a b = up (0x09 ∷ 0x00 ∷ 0x04 ∷ port ∷ 0x02 ∷ 0x26 ∷ 0x00 ∷ a ∷ b ∷ [])
+
+abbrev detached : ℕ → Entry
+detached port = up (0x05 ∷ 0x00 ∷ 0x04 ∷ port ∷ 0x00 ∷ [])
+
+-- the rest is about port 0
+abbrev request : Entry
+request = down (0x05 ∷ 0x00 ∷ 0x21 ∷ 0x00 ∷ 0x01 ∷ [])
+
+abbrev format : ℕ → ℕ → ℕ → Entry
+format mode datasets kind = up (0x0A ∷ 0x00 ∷ 0x44 ∷ 0x00 ∷ mode ∷ 0x80 ∷ datasets ∷ kind ∷ 0x04 ∷ 0x00 ∷ [])
+
+abbrev asked : ℕ → ℕ → ℕ → Entry
+asked mode delta notify = down (0x0A ∷ 0x00 ∷ 0x41 ∷ 0x00 ∷ mode ∷ delta ∷ 0x00 ∷ 0x00 ∷ 0x00 ∷ notify ∷ [])
+
+abbrev answered : ℕ → ℕ → ℕ → Entry
+answered mode delta notify = up (0x0A ∷ 0x00 ∷ 0x47 ∷ 0x00 ∷ mode ∷ delta ∷ 0x00 ∷ 0x00 ∷ 0x00 ∷ notify ∷ [])
+
+abbrev value : List ℕ → Entry
+value bytes = up ((4 + length bytes) ∷ 0x00 ∷ 0x45 ∷ 0x00 ∷ bytes)
+
+abbrev five : Entry
+five = value (0x05 ∷ 0x00 ∷ 0x00 ∷ 0x00 ∷ [])
+
+-- one of each form that wants its port present: 21, 22, 41, 43, 44, 45, 47 and a detachment
+abbrev wanting : List Entry
+wanting =
+    request
+    ∷ down (0x06 ∷ 0x00 ∷ 0x22 ∷ 0x00 ∷ 0x02 ∷ 0x80 ∷ [])
+    ∷ asked 2 1 1
+    ∷ up (0x0B ∷ 0x00 ∷ 0x43 ∷ 0x00 ∷ 0x01 ∷ 0x07 ∷ 0x06 ∷ 0x1E ∷ 0x00 ∷ 0x1F ∷ 0x00 ∷ [])
+    ∷ up (0x07 ∷ 0x00 ∷ 0x43 ∷ 0x00 ∷ 0x02 ∷ 0x0E ∷ 0x00 ∷ [])
+    ∷ up (0x07 ∷ 0x00 ∷ 0x44 ∷ 0x00 ∷ 0x02 ∷ 0x00 ∷ 0x41 ∷ [])
+    ∷ up (0x0E ∷ 0x00 ∷ 0x44 ∷ 0x00 ∷ 0x02 ∷ 0x01 ∷ 0x00 ∷ 0x00 ∷ 0x00 ∷ 0x00 ∷ 0x00 ∷ 0x00 ∷ 0x48 ∷ 0x43 ∷ [])
+    ∷ up (0x08 ∷ 0x00 ∷ 0x44 ∷ 0x00 ∷ 0x02 ∷ 0x05 ∷ 0x08 ∷ 0x00 ∷ [])
+    ∷ up (0x07 ∷ 0x00 ∷ 0x44 ∷ 0x00 ∷ 0x02 ∷ 0x07 ∷ 0x05 ∷ [])
+    ∷ up (0x0C ∷ 0x00 ∷ 0x44 ∷ 0x00 ∷ 0x02 ∷ 0x08 ∷ 0x00 ∷ 0x00 ∷ 0x00 ∷ 0x00 ∷ 0x00 ∷ 0x01 ∷ [])
+    ∷ format 2 1 2
+    ∷ five
+    ∷ answered 2 1 1
+    ∷ detached 0
+    ∷ []
+
+abbrev connect : ℕ → ℕ → Entry
+connect a b = down (0x06 ∷ 0x00 ∷ 0x61 ∷ 0x01 ∷ a ∷ b ∷ [])
+
+abbrev disconnect : ℕ → Entry
+disconnect port = down (0x05 ∷ 0x00 ∷ 0x61 ∷ 0x00 ∷ port ∷ [])
+
+-- 02 up, and down
+abbrev action : ℕ → Entry
+action a = up (0x04 ∷ 0x00 ∷ 0x02 ∷ a ∷ [])
+
+abbrev shutDown : Entry
+shutDown = down (0x04 ∷ 0x00 ∷ 0x02 ∷ 0x2F ∷ [])
+
+-- ---- what is asked after some messages, in the order in which they were sent
+
+abbrev latestFirst : List Entry → List Entry → List Entry
+latestFirst past [] = past
+latestFirst past (e ∷ es) = latestFirst (e ∷ past) es
+
+pub data Outcome : Type 0 where
+  -- a message's refusal number, 0 where it is accepted
+  number : ℕ → Outcome
+  -- one of its datasets
+  dataset : Handed → Outcome
+  -- a port that is not present; one that is, with its device and wiring
+  absent : Outcome
+  present : ℕ → Wiring → Outcome
+  -- a mode's format
+  known : Option Format → Outcome
+  -- whether a table is well formed
+  fits : Bool → Outcome
+
+pub record Example : Type 0 where
+  pub said : Outcome
+  pub wanted : Outcome
+
 abbrev numberOf : Verdict → ℕ
 numberOf (refused n place) = n
 numberOf (accepts e) = 0
 
--- each message's refusal number, judged by those before it
-abbrev answersFrom : List Entry → List Entry → List ℕ
-answersFrom past [] = []
-answersFrom past (e ∷ es) = numberOf (offerPast past e) ∷ answersFrom (e ∷ past) es
+abbrev portOf : Option Facts → Outcome
+portOf none = absent
+portOf (some f) = present (f .device) (f .wiring)
 
-abbrev pub attachMotor : ℕ → Entry
-attachMotor port = up (0x0F ∷ 0x00 ∷ 0x04 ∷ port ∷ 0x01 ∷ 0x26 ∷ 0x00 ∷ 0x00 ∷ 0x00 ∷ 0x00 ∷ 0x10 ∷ 0x00 ∷ 0x00 ∷ 0x00 ∷ 0x10 ∷ [])
+abbrev formatOf : ℕ → Option Facts → Outcome
+formatOf mode none = absent
+formatOf mode (some f) = known (f .settings .formats mode)
 
-abbrev formatOfMode2 : Entry
-formatOfMode2 = up (0x0A ∷ 0x00 ∷ 0x44 ∷ 0x00 ∷ 0x02 ∷ 0x80 ∷ 0x01 ∷ 0x02 ∷ 0x04 ∷ 0x00 ∷ [])
+abbrev offers : List Entry → Entry → ℕ → Example
+offers before e n = record { said = number (numberOf (offerPast (latestFirst [] before) e)); wanted = number n }
 
-abbrev value5 : Entry
-value5 = up (0x08 ∷ 0x00 ∷ 0x45 ∷ 0x00 ∷ 0x05 ∷ 0x00 ∷ 0x00 ∷ 0x00 ∷ [])
+abbrev hands : List Entry → Entry → ℕ → Handed → Example
+hands before e n h = record { said = dataset (handPast (latestFirst [] before) e n); wanted = dataset h }
 
-abbrev askMode2 : Entry
-askMode2 = down (0x0A ∷ 0x00 ∷ 0x41 ∷ 0x00 ∷ 0x02 ∷ 0x01 ∷ 0x00 ∷ 0x00 ∷ 0x00 ∷ 0x01 ∷ [])
+abbrev knows : List Entry → ℕ → Outcome → Example
+knows before port o = record { said = portOf (viewOfPast (latestFirst [] before) port); wanted = o }
 
-abbrev answerMode2 : Entry
-answerMode2 = up (0x0A ∷ 0x00 ∷ 0x47 ∷ 0x00 ∷ 0x02 ∷ 0x01 ∷ 0x00 ∷ 0x00 ∷ 0x00 ∷ 0x01 ∷ [])
+-- of port 0
+abbrev formats : List Entry → ℕ → Option Format → Example
+formats before mode f = record { said = formatOf mode (viewOfPast (latestFirst [] before) 0); wanted = known f }
 
--- the six records of the log reader's section: 0 0 14 0 0 0, and the last one's dataset is port 0, mode 2, state 2, value 5
-abbrev sixRecords : List Entry
-sixRecords = attachMotor 0 ∷ formatOfMode2 ∷ value5 ∷ askMode2 ∷ answerMode2 ∷ value5 ∷ []
+-- ---- tables, which the reader does not have: a few records, and whether they are well formed
 
-abbrev fiveBefore : List Entry
-fiveBefore = answerMode2 ∷ askMode2 ∷ value5 ∷ formatOfMode2 ∷ attachMotor 0 ∷ []
+abbrev wired : ℕ → Wiring → Option Record
+wired port w = some (record { port = port; facts = record { device = 0x26; wiring = w; settings = bareSettings } })
 
--- 09 00 04 10 02 26 00 00 01, ports 0 and 1 bare: accepted; ending 00 00: 12
-abbrev virtualPort : ℕ → ℕ → Entry
-virtualPort a b = up (0x09 ∷ 0x00 ∷ 0x04 ∷ 0x10 ∷ 0x02 ∷ 0x26 ∷ 0x00 ∷ a ∷ b ∷ [])
+-- one port with what was answered, what was asked, and the state
+abbrev stated : Option Setup → Option Setup → ℕ → Table
+stated answered asked state =
+    some (record { port = 0; facts = record { device = 0x26; wiring = Unjoined; settings = record { formats = λ mode. none; answered = answered; asked = asked; state = state } } }) ∷ []
 
-pub record ExamplesHold : Type 0 where
-  pub records : answersFrom [] sixRecords ≡ 0 ∷ 0 ∷ 14 ∷ 0 ∷ 0 ∷ 0 ∷ []
-  pub dataset : handPast fiveBefore value5 0 ≡ whole 0 2 2 5
-  pub pairs : answersFrom [] (attachMotor 0 ∷ attachMotor 1 ∷ virtualPort 0 0 ∷ virtualPort 0 1 ∷ []) ≡ 0 ∷ 0 ∷ 12 ∷ 0 ∷ []
+-- one port with a format of mode 2: datasets, kind
+abbrev formatted : ℕ → ℕ → Table
+formatted n k =
+    some (record {
+      port = 0;
+      facts = record {
+        device = 0x26;
+        wiring = Unjoined;
+        settings = learn (Formatted 2 (record { datasets = n; kind = k; figures = 4; decimals = 0 })) bareSettings;
+      };
+    })
+    ∷ []
+
+abbrev table : Table → Bool → Example
+table t b = record { said = fits (wellFormed t); wanted = fits b }
+
+-- ---- the examples
+
+-- a motor whose mode 2 has one dataset of kind 2
+abbrev motor : List Entry
+motor = attached 0 ∷ format 2 1 2 ∷ []
+
+-- ports 0 and 1, joined to port 16
+abbrev joined : List Entry
+joined = attached 0 ∷ attached 1 ∷ virtual 16 0 1 ∷ []
+
+abbrev sixteen : List Entry
+sixteen = map attached (upFrom 0 16)
+
+-- a value of two datasets of a kind, and the second of them
+abbrev second : ℕ → List ℕ → Handed → Example
+second kind bytes h = hands (attached 0 ∷ format 2 2 kind ∷ answered 2 1 1 ∷ []) (value bytes) 1 h
+
+abbrev pub examples : List Example
+examples =
+    -- the six records of the log reader's section
+    offers [] (attached 0) 0
+    ∷ offers (attached 0 ∷ []) (format 2 1 2) 0
+    ∷ offers motor five 14
+    ∷ offers motor (asked 2 1 1) 0
+    ∷ offers (motor ++ (asked 2 1 1 ∷ [])) (answered 2 1 1) 0
+    ∷ hands (motor ++ (asked 2 1 1 ∷ answered 2 1 1 ∷ [])) five 0 (whole 0 2 2 5)
+    -- states 0, 1 (read by the mode that was answered, not by the one asked for) and 3: another delta, notify, mode
+    ∷ hands (motor ++ (answered 2 1 1 ∷ [])) five 0 (whole 0 2 0 5)
+    ∷ hands (motor ++ (format 3 1 0 ∷ answered 2 1 1 ∷ asked 3 1 1 ∷ [])) five 0 (whole 0 2 1 5)
+    ∷ hands (motor ++ (asked 2 1 1 ∷ answered 2 9 1 ∷ [])) five 0 (whole 0 2 3 5)
+    ∷ hands (motor ++ (asked 2 1 1 ∷ answered 2 1 0 ∷ [])) five 0 (whole 0 2 3 5)
+    ∷ hands (motor ++ (asked 3 1 1 ∷ answered 2 1 1 ∷ [])) five 0 (whole 0 2 3 5)
+    -- 11, before 12
+    ∷ offers (attached 0 ∷ []) (attached 0) 11
+    ∷ offers (attached 0 ∷ []) (virtual 0 0 0) 11
+    -- 12: the same member twice, an absent one, a joined one, a virtual one
+    ∷ offers (attached 0 ∷ attached 1 ∷ []) (virtual 16 0 1) 0
+    ∷ offers (attached 0 ∷ attached 1 ∷ []) (virtual 16 0 0) 12
+    ∷ offers (attached 0 ∷ []) (virtual 16 0 1) 12
+    ∷ offers (joined ++ (attached 2 ∷ [])) (virtual 17 1 2) 12
+    ∷ offers (joined ++ (attached 2 ∷ [])) (virtual 17 2 16) 12
+    -- 61
+    ∷ offers (attached 0 ∷ attached 1 ∷ []) (connect 0 1) 0
+    ∷ offers joined (connect 0 1) 12
+    ∷ offers joined (disconnect 16) 0
+    ∷ offers joined (disconnect 0) 12
+    ∷ offers joined (disconnect 2) 10
+    -- 13 at the seventeenth; none after a detachment
+    ∷ offers sixteen (attached 16) 13
+    ∷ offers (sixteen ++ (detached 3 ∷ [])) (attached 16) 0
+    -- 15 to 18
+    ∷ offers (attached 0 ∷ answered 2 1 1 ∷ []) five 15
+    ∷ offers (motor ++ (answered 2 1 1 ∷ [])) (value (0x05 ∷ 0x00 ∷ 0x00 ∷ [])) 16
+    ∷ hands (motor ++ (answered 2 1 1 ∷ [])) five 1 (Value.refused 17 0)
+    ∷ hands motor (attached 1) 0 (Value.refused 17 0)
+    ∷ hands (attached 0 ∷ format 2 1 3 ∷ answered 2 1 1 ∷ []) (value (0x00 ∷ 0x00 ∷ 0x80 ∷ 0x7F ∷ [])) 0 (Value.refused 18 0)
+    -- two datasets of each kind, unsigned, and a float
+    ∷ second 0 (0x01 ∷ 0xFF ∷ []) (whole 0 2 0 255)
+    ∷ second 1 (0x01 ∷ 0x00 ∷ 0x02 ∷ 0x01 ∷ []) (whole 0 2 0 258)
+    ∷ second 2 (0x01 ∷ 0x00 ∷ 0x00 ∷ 0x00 ∷ 0x02 ∷ 0x00 ∷ 0x01 ∷ 0x00 ∷ []) (whole 0 2 0 65538)
+    ∷ second 3 (0x00 ∷ 0x00 ∷ 0x00 ∷ 0x00 ∷ 0x00 ∷ 0x00 ∷ 0x48 ∷ 0x43 ∷ []) (float 0 2 0 (fin false 25 (pos 3)))
+    -- members as sent; a pulled member; what is told is forgotten with the port; 30 to 32 empty the table
+    ∷ knows (attached 0 ∷ attached 1 ∷ virtual 16 1 0 ∷ []) 16 (present 0x26 (Virtual 1 0))
+    ∷ knows joined 1 (present 0x26 (Joined 16))
+    ∷ knows (joined ++ (detached 0 ∷ [])) 16 absent
+    ∷ knows (joined ++ (detached 0 ∷ [])) 1 (present 0x26 Unjoined)
+    ∷ offers (motor ++ (answered 2 1 1 ∷ detached 0 ∷ attached 0 ∷ [])) five 14
+    ∷ formats motor 2 (some (record { datasets = 1; kind = 2; figures = 4; decimals = 0 }))
+    ∷ formats motor 3 none
+    ∷ knows (joined ++ (action 0x30 ∷ [])) 1 absent
+    ∷ knows (joined ++ (action 0x32 ∷ [])) 1 absent
+    ∷ knows (joined ++ (shutDown ∷ [])) 1 (present 0x26 (Joined 16))
+    -- a port twice; joined to nothing; a pair, its member unjoined, the same member twice, a third one joined
+    ∷ table (wired 0 Unjoined ∷ wired 1 Unjoined ∷ []) true
+    ∷ table (wired 0 Unjoined ∷ wired 0 Unjoined ∷ []) false
+    ∷ table (wired 0 (Joined 16) ∷ []) false
+    ∷ table (wired 0 (Joined 16) ∷ wired 16 (Virtual 0 1) ∷ none ∷ wired 1 (Joined 16) ∷ []) true
+    ∷ table (wired 0 (Joined 16) ∷ wired 16 (Virtual 0 1) ∷ wired 1 Unjoined ∷ []) false
+    ∷ table (wired 0 (Joined 16) ∷ wired 16 (Virtual 0 0) ∷ []) false
+    ∷ table (wired 0 (Joined 16) ∷ wired 16 (Virtual 0 1) ∷ wired 1 (Joined 16) ∷ wired 2 (Joined 16) ∷ []) false
+    -- states that fit, and that don't; fields outside their lists
+    ∷ table (stated none none 1) false
+    ∷ table (stated none (some (setup 2 1 1)) 1) true
+    ∷ table (stated none (some (setup 2 1 1)) 2) false
+    ∷ table (stated (some (setup 2 1 1)) (some (setup 2 1 1)) 2) true
+    ∷ table (stated (some (setup 2 1 1)) (some (setup 2 1 1)) 1) true
+    ∷ table (stated (some (setup 2 1 0)) (some (setup 2 1 1)) 2) false
+    ∷ table (stated (some (setup 2 1 0)) (some (setup 2 1 1)) 3) true
+    ∷ table (stated (some (setup 16 1 1)) none 0) false
+    ∷ table (stated (some (setup 2 1 2)) none 0) false
+    ∷ table (formatted 16 3) true
+    ∷ table (formatted 17 3) false
+    ∷ table (formatted 0 3) false
+    ∷ table (formatted 16 4) false
+    -- 10; accepted where the port is present
+    ∷ offers (attached 0 ∷ []) request 0
+    ∷ map (λ e. offers [] e 10) wanting
+
+-- one statement, `examples-hold` in proofs/Examples.antt
+abbrev pub ExamplesHold : Type 0
+ExamplesHold = map (λ e. e .said) examples ≡ map (λ e. e .wanted) examples

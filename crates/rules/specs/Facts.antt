@@ -1,34 +1,14 @@
 -- What is known of a port, and a view: what is known of each port.
 use Prim.Native.Nat.{ℕ}
-use mathlib.Core.Bool.{Bool, true, false, _&&_}
+use mathlib.Core.Bool.{Bool, true, false}
 use mathlib.Core.Option.{Option, none, some}
-use lib.Dec.{eqb}
+pub use Rattle.rules.specs.declared.Setup.{Setup}
+pub use Rattle.rules.specs.declared.Format.{Format}
+pub use Rattle.rules.specs.declared.Wiring.{Wiring}
+pub use Rattle.rules.specs.declared.Wiring.the-variants.{Unjoined, Joined, Virtual}
 
--- an input format setup, asked for by a 41 or answered by a 47
-pub record Setup : Type 0 where
-  pub mode : ℕ
-  pub delta : ℕ
-  pub notify : ℕ
-
-abbrev pub sameSetup : Setup → Setup → Bool
-sameSetup s t = eqb (s .mode) (t .mode) && eqb (s .delta) (t .delta) && eqb (s .notify) (t .notify)
-
--- a mode's value format (44, information type 80)
-pub record Format : Type 0 where
-  pub datasets : ℕ
-  pub kind : ℕ
-  pub figures : ℕ
-  pub decimals : ℕ
-
--- a port is physical, and joined to a virtual port or not; or it is virtual, with its two members as they were sent
-pub data Wiring : Type 0 where
-  unjoined : Wiring
-  joined : ℕ → Wiring
-  virtual : ℕ → ℕ → Wiring
-
-pub record Facts : Type 0 where
-  pub device : ℕ
-  pub wiring : Wiring
+-- what a port was told since its attachment
+pub record Settings : Type 0 where
   -- by mode
   pub formats : ℕ → Option Format
   -- the last 47 and the last 41
@@ -38,6 +18,11 @@ pub record Facts : Type 0 where
   -- 3 it came after and differs
   pub state : ℕ
 
+pub record Facts : Type 0 where
+  pub device : ℕ
+  pub wiring : Wiring
+  pub settings : Settings
+
 -- by port; none where the port is not present
 abbrev pub View : Type 0
 View = ℕ → Option Facts
@@ -45,6 +30,12 @@ View = ℕ → Option Facts
 -- a port's mode, by which its values are read; none where it has none yet
 abbrev pub Modes : Type 0
 Modes = ℕ → Option ℕ
+
+-- what judging looks at: what is known of each port, its mode, and whether sixteen ports are present
+pub record Ports : Type 0 where
+  pub view : View
+  pub modes : Modes
+  pub full : Bool
 
 abbrev pub modeIn : Option Setup → Option ℕ
 modeIn none = none
@@ -55,11 +46,11 @@ known none = false
 known (some f) = true
 
 abbrev pub isUnjoined : Wiring → Bool
-isUnjoined unjoined = true
-isUnjoined (joined v) = false
-isUnjoined (virtual a b) = false
+isUnjoined Unjoined = true
+isUnjoined (Joined v) = false
+isUnjoined (Virtual a b) = false
 
 abbrev pub isVirtual : Wiring → Bool
-isVirtual unjoined = false
-isVirtual (joined v) = false
-isVirtual (virtual a b) = true
+isVirtual Unjoined = false
+isVirtual (Joined v) = false
+isVirtual (Virtual a b) = true

@@ -3,8 +3,8 @@ use Prim.Native.Nat.{ℕ, _*_}
 use mathlib.Core.Bool.{Bool, false, cond, not, _&&_}
 use mathlib.Core.Option.{Option, none, some}
 use lib.Dec.{eqb}
-use Rattle.rules.specs.Effect.{Effect, nothing, names, attach, attachVirtual, detach, setFormat, answer, ask, value, disconnect, connect, empty}
-use Rattle.rules.specs.Facts.{Format, Facts, View, Modes, known, isUnjoined, isVirtual}
+use Rattle.rules.specs.Effect.{Effect, Nothing, ToPort, Attach, AttachVirtual, Detach, Value, Disconnect, Connect, Empty}
+use Rattle.rules.specs.Facts.{Format, Facts, View, Ports, known, isUnjoined, isVirtual}
 
 -- bytes of a dataset, by kind: 1, 2, 4, 4
 abbrev pub widthOf : ℕ → ℕ
@@ -41,23 +41,20 @@ byMode (some mode) formats count = byFormat (formats mode) count
 
 abbrev pub judgeValue : Option Facts → Option ℕ → ℕ → ℕ
 judgeValue none mode count = 10
-judgeValue (some f) mode count = byMode mode (f .formats) count
+judgeValue (some f) mode count = byMode mode (f .settings .formats) count
 
 abbrev pub judgeDisconnect : Option Facts → ℕ
 judgeDisconnect none = 10
 judgeDisconnect (some f) = cond (isVirtual (f .wiring)) 0 12
 
--- a message with so many open bytes; `full` where sixteen ports are present
-unfoldable pub judge : View → Modes → Bool → Effect → ℕ → ℕ
-judge view modes full nothing count = 0
-judge view modes full (names port) count = wants view port
-judge view modes full (attach port device) count = cond (present view port) 11 (room full)
-judge view modes full (attachVirtual port device a b) count = cond (present view port) 11 (cond (goodPair view a b) (room full) 12)
-judge view modes full (detach port) count = wants view port
-judge view modes full (setFormat port mode f) count = wants view port
-judge view modes full (answer port s) count = wants view port
-judge view modes full (ask port s) count = wants view port
-judge view modes full (value port) count = judgeValue (view port) (modes port) count
-judge view modes full (disconnect port) count = judgeDisconnect (view port)
-judge view modes full (connect a b) count = cond (goodPair view a b) 0 12
-judge view modes full empty count = 0
+-- a message with so many open bytes
+unfoldable pub judge : Ports → Effect → ℕ → ℕ
+judge ports Nothing count = 0
+judge ports (ToPort port c) count = wants (ports .view) port
+judge ports (Attach port device) count = cond (present (ports .view) port) 11 (room (ports .full))
+judge ports (AttachVirtual port device a b) count = cond (present (ports .view) port) 11 (cond (goodPair (ports .view) a b) (room (ports .full)) 12)
+judge ports (Detach port) count = wants (ports .view) port
+judge ports (Value port) count = judgeValue (ports .view port) (ports .modes port) count
+judge ports (Disconnect port) count = judgeDisconnect (ports .view port)
+judge ports (Connect a b) count = cond (goodPair (ports .view) a b) 0 12
+judge ports Empty count = 0

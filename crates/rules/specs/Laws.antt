@@ -7,7 +7,8 @@ use mathlib.Core.Option.{none, some}
 use lib.ListN.{replicate}
 use Rattle.protocol.specs.Number.{Bytes}
 use Rattle.rules.specs.Table.{Record, Table, fullTable, insert, remove}
-use Rattle.rules.specs.Cells.{stride, placeCells, sound, emptyCells}
+use Rattle.rules.specs.Layout.{stride}
+use Rattle.rules.specs.Cells.{placeCells, sound, emptyCells}
 use Rattle.rules.specs.Offer.{Entry, refused, offerCells, cellsAfter}
 
 -- the empty table is sound

@@ -1,8 +1,11 @@
+pub mod Layout
 pub mod Facts
 pub mod Effect
 pub mod Judge
 pub mod Value
+pub mod Told
 pub mod History
+pub mod Learn
 pub mod Table
 pub mod WellFormed
 pub mod Ranges

@@ -1,6 +1,6 @@
 -- Offering a message and handing out a dataset: by the lent cells of a table, and by the list of earlier messages.
 use Prim.Native.Nat.{ℕ}
-use mathlib.Core.Bool.{Bool, cond}
+use mathlib.Core.Bool.{cond}
 use mathlib.Core.List.{List, [], _∷_}
 use lib.Dec.{eqb}
 use lib.ListN.{length}
@@ -9,12 +9,12 @@ use Rattle.protocol.specs.Decode as Decode
 use Rattle.protocol.specs.Answer.{messageOf}
 use Rattle.protocol.specs.declared.Way.{Way}
 use Rattle.rules.specs.Effect.{Effect, effectOf}
-use Rattle.rules.specs.Facts.{View, Modes}
+use Rattle.rules.specs.Facts.{View, Modes, Ports}
 use Rattle.rules.specs.Judge.{judge}
 use Rattle.rules.specs.Value.{Handed, hand}
 use Rattle.rules.specs.Value as Value
-use Rattle.rules.specs.History.{History, viewOfHistory, modesOfHistory, fullHistory}
-use Rattle.rules.specs.Table.{viewOfTable, modesOfTable, fullTable, apply}
+use Rattle.rules.specs.History.{History, viewOfHistory, modesOfHistory, portsOfHistory}
+use Rattle.rules.specs.Table.{viewOfTable, modesOfTable, portsOfTable, apply}
 use Rattle.rules.specs.Cells.{cellsOf, tableAt, sound}
 
 -- a message: any bytes, with their direction
@@ -31,21 +31,21 @@ abbrev pub verdict : ℕ → Effect → Verdict
 verdict n e = cond (eqb n 0) (accepts e) (refused n 0)
 
 -- reading comes first, then 10 to 16
-abbrev pub judgeAnswer : View → Modes → Bool → List ℕ → Answer → Verdict
-judgeAnswer view modes full s (Decode.refused n place) = refused n place
-judgeAnswer view modes full s (accepted f vs) =
+abbrev pub judgeAnswer : Ports → List ℕ → Answer → Verdict
+judgeAnswer ports s (Decode.refused n place) = refused n place
+judgeAnswer ports s (accepted f vs) =
     let e = effectOf (messageOf f vs) in
-    verdict (judge view modes full e (length (openOf s (accepted f vs)))) e
+    verdict (judge ports e (length (openOf s (accepted f vs)))) e
 
-unfoldable pub judgeEntry : View → Modes → Bool → Entry → Verdict
-judgeEntry view modes full e = judgeAnswer view modes full (e .bytes) (decode (e .way) (e .bytes))
+unfoldable pub judgeEntry : Ports → Entry → Verdict
+judgeEntry ports e = judgeAnswer ports (e .bytes) (decode (e .way) (e .bytes))
 
-abbrev pub handAnswer : View → Modes → Bool → List ℕ → ℕ → Answer → Handed
-handAnswer view modes full s number (Decode.refused n place) = Value.refused n place
-handAnswer view modes full s number (accepted f vs) = hand view modes full (effectOf (messageOf f vs)) (openOf s (accepted f vs)) number
+abbrev pub handAnswer : Ports → List ℕ → ℕ → Answer → Handed
+handAnswer ports s number (Decode.refused n place) = Value.refused n place
+handAnswer ports s number (accepted f vs) = hand ports (effectOf (messageOf f vs)) (openOf s (accepted f vs)) number
 
-unfoldable pub handEntry : View → Modes → Bool → Entry → ℕ → Handed
-handEntry view modes full e number = handAnswer view modes full (e .bytes) number (decode (e .way) (e .bytes))
+unfoldable pub handEntry : Ports → Entry → ℕ → Handed
+handEntry ports e number = handAnswer ports (e .bytes) number (decode (e .way) (e .bytes))
 
 -- ---- by the cells of a table
 
@@ -53,7 +53,7 @@ handEntry view modes full e number = handAnswer view modes full (e .bytes) numbe
 unfoldable pub offerCells : List ℕ → Entry → Verdict
 offerCells cells e =
     let t = tableAt cells in
-    cond (sound cells) (judgeEntry (viewOfTable t) (modesOfTable t) (fullTable t) e) (refused 9 0)
+    cond (sound cells) (judgeEntry (portsOfTable t) e) (refused 9 0)
 
 -- the lent cells afterwards: changed by an accepted message only
 abbrev pub appliedTo : List ℕ → Verdict → List ℕ
@@ -66,7 +66,7 @@ cellsAfter cells e = appliedTo cells (offerCells cells e)
 unfoldable pub handCells : List ℕ → Entry → ℕ → Handed
 handCells cells e number =
     let t = tableAt cells in
-    cond (sound cells) (handEntry (viewOfTable t) (modesOfTable t) (fullTable t) e number) (Value.refused 9 0)
+    cond (sound cells) (handEntry (portsOfTable t) e number) (Value.refused 9 0)
 
 abbrev pub viewOfCells : List ℕ → View
 viewOfCells cells = viewOfTable (tableAt cells)
@@ -83,13 +83,13 @@ remember h (accepts e) = e ∷ h
 -- the accepted ones, each judged by those before it
 abbrev pub heard : List Entry → History
 heard [] = []
-heard (e ∷ past) = remember (heard past) (judgeEntry (viewOfHistory (heard past)) (modesOfHistory (heard past)) (fullHistory (heard past)) e)
+heard (e ∷ past) = remember (heard past) (judgeEntry (portsOfHistory (heard past)) e)
 
 abbrev pub offerPast : List Entry → Entry → Verdict
-offerPast past e = judgeEntry (viewOfHistory (heard past)) (modesOfHistory (heard past)) (fullHistory (heard past)) e
+offerPast past e = judgeEntry (portsOfHistory (heard past)) e
 
 abbrev pub handPast : List Entry → Entry → ℕ → Handed
-handPast past e number = handEntry (viewOfHistory (heard past)) (modesOfHistory (heard past)) (fullHistory (heard past)) e number
+handPast past e number = handEntry (portsOfHistory (heard past)) e number
 
 abbrev pub viewOfPast : List Entry → View
 viewOfPast past = viewOfHistory (heard past)

@@ -6,7 +6,9 @@ use mathlib.Core.List.{[], _∷_}
 use mathlib.Core.Option.{Option, none, some}
 use lib.Dec.{eqb, leb, ltb}
 use Rattle.protocol.specs.Rule.{between}
-use Rattle.rules.specs.Facts.{Setup, sameSetup, Format, Wiring, unjoined, joined, virtual, Facts, View, known}
+use Rattle.rules.specs.Layout.{portCount, modeCount}
+use Rattle.rules.specs.Facts.{Setup, Format, Settings, Wiring, Unjoined, Joined, Virtual, Facts, View, known}
+use Rattle.rules.specs.Learn.{sameSetup}
 use Rattle.rules.specs.Table.{Record, Table, viewOfTable}
 
 abbrev pub setupFits : Option Setup → Bool
@@ -32,34 +34,37 @@ stateFits none answered state = eqb state 0
 stateFits (some s) answered state = stateAfter s answered state
 
 abbrev pub joinedTo : ℕ → Wiring → Bool
-joinedTo v unjoined = false
-joinedTo v (joined w) = eqb w v
-joinedTo v (virtual a b) = false
+joinedTo v Unjoined = false
+joinedTo v (Joined w) = eqb w v
+joinedTo v (Virtual a b) = false
 
 abbrev pub isJoinedTo : ℕ → Option Facts → Bool
 isJoinedTo v none = false
 isJoinedTo v (some f) = joinedTo v (f .wiring)
 
 abbrev pub pairWith : ℕ → Wiring → Bool
-pairWith port unjoined = false
-pairWith port (joined w) = false
-pairWith port (virtual a b) = eqb a port || eqb b port
+pairWith port Unjoined = false
+pairWith port (Joined w) = false
+pairWith port (Virtual a b) = eqb a port || eqb b port
 
 abbrev pub isPairWith : ℕ → Option Facts → Bool
 isPairWith port none = false
 isPairWith port (some f) = pairWith port (f .wiring)
 
 abbrev pub wiringFits : View → ℕ → Wiring → Bool
-wiringFits view port unjoined = true
-wiringFits view port (joined v) = ltb v 256 && isPairWith port (view v)
-wiringFits view port (virtual a b) = ltb a 256 && ltb b 256 && not (eqb a b) && isJoinedTo port (view a) && isJoinedTo port (view b)
+wiringFits view port Unjoined = true
+wiringFits view port (Joined v) = ltb v portCount && isPairWith port (view v)
+wiringFits view port (Virtual a b) = ltb a portCount && ltb b portCount && not (eqb a b) && isJoinedTo port (view a) && isJoinedTo port (view b)
 
 -- fields within their lists, and the state by its rule
+abbrev pub settingsFit : Settings → Bool
+settingsFit s = formatsFit modeCount (s .formats) && setupFits (s .answered) && setupFits (s .asked) && stateFits (s .asked) (s .answered) (s .state)
+
 abbrev pub factsFit : Facts → Bool
-factsFit f = ltb (f .device) 65536 && formatsFit 16 (f .formats) && setupFits (f .answered) && setupFits (f .asked) && stateFits (f .asked) (f .answered) (f .state)
+factsFit f = ltb (f .device) 65536 && settingsFit (f .settings)
 
 abbrev pub recordFits : View → Record → Bool
-recordFits view r = ltb (r .port) 256 && factsFit (r .facts) && wiringFits view (r .port) (r .facts .wiring)
+recordFits view r = ltb (r .port) portCount && factsFit (r .facts) && wiringFits view (r .port) (r .facts .wiring)
 
 -- every record fits, and no port stands in a later place too
 abbrev pub placesFit : View → Table → Bool

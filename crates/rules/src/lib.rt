@@ -1,1 +1,76 @@
 // The rules of the port table and the reader without a table. Definitions and laws only: no function.
+
+// An input format setup, asked for by a 0x41 or answered by a 0x47.
+pub struct Setup {
+    pub mode: u8,
+    pub delta: u32,
+    pub notify: u8,
+}
+
+// A mode's value format (0x44, information type 0x80).
+pub struct Format {
+    pub datasets: u8,
+    pub kind: u8,
+    pub figures: u8,
+    pub decimals: u8,
+}
+
+// A port is physical, and joined to a virtual port or not; or it is virtual, with its two members as they were sent.
+pub enum Wiring {
+    Unjoined,
+    Joined { port: u8 },
+    Virtual { port_a: u8, port_b: u8 },
+}
+
+// What a message tells a port, which has to be present.
+pub enum Change {
+    // 0x21, 0x22, 0x43, and a 0x44 with another information type than 0x80: nothing that is kept.
+    Unchanged,
+    // 0x44, information type 0x80
+    Formatted { mode: u8, format: Format },
+    // 0x47
+    Answered { setup: Setup },
+    // 0x41
+    Asked { setup: Setup },
+}
+
+// What a message is to the port table.
+pub enum Effect {
+    // Changes nothing and names no port that has to be present.
+    Nothing,
+    ToPort {
+        port: u8,
+        change: Change,
+    },
+    // 0x04, event 1
+    Attach {
+        port: u8,
+        device: u16,
+    },
+    // 0x04, event 2
+    AttachVirtual {
+        port: u8,
+        device: u16,
+        port_a: u8,
+        port_b: u8,
+    },
+    // 0x04, event 0
+    Detach {
+        port: u8,
+    },
+    // 0x45
+    Value {
+        port: u8,
+    },
+    // 0x61, sub command 0
+    Disconnect {
+        port: u8,
+    },
+    // 0x61, sub command 1
+    Connect {
+        port_a: u8,
+        port_b: u8,
+    },
+    // 0x02 up, 0x30 to 0x32
+    Empty,
+}

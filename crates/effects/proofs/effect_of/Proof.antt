@@ -7,8 +7,8 @@ use denote.Enum.Declared.{tagOf}
 use Rattle.protocol.specs.declared.Message.{Message}
 use Rattle.protocol.specs.declared.Message.the-variants as Message'
 use Rattle.protocol.proofs.Message.{the-type}
-use Rattle.rules.specs.Effect.{nothing, effectOf}
-use Rattle.effects.specs.Told.{told}
+use Rattle.rules.specs.Effect.{effectOf}
+use Rattle.rules.specs.declared.Effect.the-variants.{Nothing}
 use borrow.Author.Needs.{needs}
 use Rattle.effects.proofs.effect_of.Statement.{statement}
 use Rattle.effects.proofs.effect_of.Tie as tie
@@ -16,7 +16,7 @@ use Rattle.effects.proofs.effect_of.Tie as tie
 abbrev others : List ℕ
 others = 0 ∷ 1 ∷ 2 ∷ 3 ∷ 4 ∷ 5 ∷ 6 ∷ 8 ∷ 9 ∷ 13 ∷ 14 ∷ 15 ∷ 16 ∷ 17 ∷ []
 
-nothing-told : (m : Message) → OneOf others (tagOf the-type m) → effectOf m ≡ nothing
+nothing-told : (m : Message) → OneOf others (tagOf the-type m) → effectOf m ≡ Nothing
 unfolding effectOf
 nothing-told (Message'.PropertyCommand p o) t = refl
 nothing-told (Message'.PropertyText p o) t = refl
@@ -117,79 +117,78 @@ unfolding effectOf
 returns c = c .action-effect .ensures ∙ sym (ap effectOf (c .before .before .m .given .1))
 
 returns-2 : tie.Need-returns-2
-unfolding effectOf told
+unfolding effectOf
 returns-2 c = sym (ap effectOf (c .before .m2 .given .1))
 
 returns-3 : tie.Need-returns-3
-unfolding effectOf told
+unfolding effectOf
 returns-3 c = sym (ap effectOf (c .before .m3 .given .1))
 
 returns-4 : tie.Need-returns-4
-unfolding effectOf told
+unfolding effectOf
 returns-4 c = sym (ap effectOf (c .before .m4 .given .1))
 
 returns-5 : tie.Need-returns-5
-unfolding effectOf told
+unfolding effectOf
 returns-5 c = sym (ap effectOf (c .before .m5 .given .1))
 
 returns-6 : tie.Need-returns-6
-unfolding effectOf told
+unfolding effectOf
 returns-6 c = sym (ap effectOf (c .before .m6 .given .1))
 
 returns-7 : tie.Need-returns-7
-unfolding effectOf told
+unfolding effectOf
 returns-7 c = sym (ap effectOf (c .before .m7 .given .1))
 
 returns-8 : tie.Need-returns-8
-unfolding effectOf told
+unfolding effectOf
 returns-8 c = sym (ap effectOf (c .before .m8 .given .1))
 
 returns-9 : tie.Need-returns-9
-unfolding effectOf told
+unfolding effectOf
 returns-9 c = sym (ap effectOf (c .before .m9 .given .1))
 
 returns-10 : tie.Need-returns-10
-unfolding effectOf told
+unfolding effectOf
 returns-10 c = sym (ap effectOf (c .before .m10 .given .1))
 
 returns-11 : tie.Need-returns-11
-unfolding effectOf told
+unfolding effectOf
 returns-11 c = sym (ap effectOf (c .before .m11 .given .1))
 
 returns-12 : tie.Need-returns-12
-unfolding effectOf told
+unfolding effectOf
 returns-12 c = sym (ap effectOf (c .before .m12 .given .1))
 
 returns-13 : tie.Need-returns-13
-unfolding effectOf told
+unfolding effectOf
 returns-13 c = sym (ap effectOf (c .before .m13 .given .1))
 
 returns-14 : tie.Need-returns-14
-unfolding effectOf told
+unfolding effectOf
 returns-14 c = sym (ap effectOf (c .before .m14 .given .1))
 
 returns-15 : tie.Need-returns-15
-unfolding effectOf told
+unfolding effectOf
 returns-15 c = sym (ap effectOf (c .before .m15 .given .1))
 
 returns-16 : tie.Need-returns-16
-unfolding effectOf told
+unfolding effectOf
 returns-16 c = sym (ap effectOf (c .before .m16 .given .1))
 
 returns-17 : tie.Need-returns-17
-unfolding effectOf told
+unfolding effectOf
 returns-17 c = sym (ap effectOf (c .before .m17 .given .1))
 
 returns-18 : tie.Need-returns-18
-unfolding effectOf told
+unfolding effectOf
 returns-18 c = sym (ap effectOf (c .before .m18 .given .1))
 
 returns-19 : tie.Need-returns-19
-unfolding effectOf told
+unfolding effectOf
 returns-19 c = sym (ap effectOf (c .before .m19 .given .1))
 
 returns-20 : tie.Need-returns-20
-unfolding told
 returns-20 c = sym (nothing-told (c .before .args .m) (c .match .keys20))
 
 pub effect-of-spec : {M : Type 1} → statement M

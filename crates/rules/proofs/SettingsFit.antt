@@ -1,0 +1,91 @@
+-- What a port is told keeps its settings within their lists. There are no ports here, and no tables.
+use Prim.Native.Nat.{ℕ, zero, suc, _≤_}
+use mathlib.Core.Path.{_≡_, refl}
+use mathlib.Core.Bool.{Bool, true, false, cond, _&&_, _||_}
+use mathlib.Core.Option.{Option, none, some}
+use native.Mathlib.Omega.{arith}
+use borrow.Author.Tests.{ne-eqb, leb-true}
+use lib.Dec.{eqb, leb}
+use Rattle.protocol.proofs.Tests.{and-left, and-right}
+use Rattle.rules.specs.Layout.{modeCount}
+use Rattle.rules.specs.Effect.{Change, Unchanged, Formatted, Answered, Asked}
+use Rattle.rules.specs.Facts.{Setup, Format, Settings}
+use Rattle.rules.specs.Learn.{sameSetup, answeredState, bareSettings, learn}
+use Rattle.rules.specs.Ranges.{changeFits}
+use Rattle.rules.specs.WellFormed.{setupFits, formatFits, formatsFit, stateFits, settingsFit}
+
+four-passed : (a b c d : Bool) → (a && b && c && d) ≡ true → (a ≡ true) × (b ≡ true) × (c ≡ true) × (d ≡ true)
+four-passed a b c d h =
+    let abc = and-left (a && b && c) d h in
+    let ab = and-left (a && b) c abc in
+    (and-left a b ab, and-right a b ab, and-right (a && b) c abc, and-right (a && b && c) d h)
+
+-- no format of a mode from 16 on
+abbrev pub NoHigh : (ℕ → Option Format) → Type 0
+NoHigh formats = (m : ℕ) → modeCount ≤ m → formats m ≡ none
+
+pub record Fits (s : Settings) : Type 0 where
+  pub lists : settingsFit s ≡ true
+  pub high : NoHigh (s .formats)
+
+-- the tests of settings, one by one
+pub record Listed (s : Settings) : Type 0 where
+  pub formats : formatsFit modeCount (s .formats) ≡ true
+  pub answered : setupFits (s .answered) ≡ true
+  pub asked : setupFits (s .asked) ≡ true
+  pub state : stateFits (s .asked) (s .answered) (s .state) ≡ true
+
+pub listed : (s : Settings) → settingsFit s ≡ true → Listed s
+listed s e =
+    let k = four-passed (formatsFit modeCount (s .formats)) (setupFits (s .answered)) (setupFits (s .asked)) (stateFits (s .asked) (s .answered) (s .state)) e in
+    record { formats = k .0; answered = k .1; asked = k .2; state = k .3 }
+
+fits-by : (s : Settings) → Listed s → settingsFit s ≡ true
+fits-by s k = rw (k .formats, k .answered, k .asked, k .state)
+
+pub bare-fits : Fits bareSettings
+bare-fits = record { lists = refl; high = λ m h. refl }
+
+-- ---- a format
+
+format-cond : (b : Bool) (x y : Option Format) → formatFits x ≡ true → formatFits y ≡ true → formatFits (cond b x y) ≡ true
+format-cond true x y p q = p
+format-cond false x y p q = q
+
+formats-set : (n mode : ℕ) (new : Format) (formats : ℕ → Option Format) → formatFits (some new) ≡ true → formatsFit n formats ≡ true → formatsFit n (λ m. cond (eqb mode m) (some new) (formats m)) ≡ true
+formats-set zero mode new formats good e = refl
+formats-set (suc n) mode new formats good e =
+    rw (format-cond (eqb mode n) (some new) (formats n) good (and-left (formatFits (formats n)) (formatsFit n formats) e)) (formats-set n mode new formats good (and-right (formatFits (formats n)) (formatsFit n formats) e))
+
+-- ---- the state
+
+answered-state : (asked : Option Setup) (s : Setup) → stateFits asked (some s) (answeredState asked s) ≡ true
+answered-state none s = refl
+answered-state (some t) s = go (sameSetup t s)
+  where
+    go : (b : Bool) → (eqb (cond b 2 3) 1 || eqb (cond b 2 3) (cond b 2 3)) ≡ true
+    go true = refl
+    go false = refl
+
+asked-state : (s : Setup) (answered : Option Setup) → stateFits (some s) answered 1 ≡ true
+asked-state s none = refl
+asked-state s (some t) = refl
+
+-- ---- every change
+
+pub learn-fits : (c : Change) → changeFits c ≡ true → (s : Settings) → Fits s → Fits (learn c s)
+unfolding learn
+learn-fits Unchanged good s k = k
+learn-fits (Formatted mode f) good s k =
+    let l = listed s (k .lists) in
+    let low : mode ≤ 15 = leb-true mode 15 (and-left (leb mode 15) (formatFits (some f)) good) in
+    record {
+      lists = fits-by (learn (Formatted mode f) s) (record { formats = formats-set modeCount mode f (s .formats) (and-right (leb mode 15) (formatFits (some f)) good) (l .formats); answered = l .answered; asked = l .asked; state = l .state });
+      high = λ m h. rw (ne-eqb mode m (λ (e : mode ≡ m). omega arith)) (k .high m h);
+    }
+learn-fits (Answered x) good s k =
+    let l = listed s (k .lists) in
+    record { lists = fits-by (learn (Answered x) s) (record { formats = l .formats; answered = good; asked = l .asked; state = answered-state (s .asked) x }); high = k .high }
+learn-fits (Asked x) good s k =
+    let l = listed s (k .lists) in
+    record { lists = fits-by (learn (Asked x) s) (record { formats = l .formats; answered = l .answered; asked = good; state = asked-state x (s .answered) }); high = k .high }

@@ -1,0 +1,54 @@
+-- Sizes, and where each number of a record lies among the cells of its place.
+use Prim.Native.Nat.{ℕ, _*_}
+
+-- ports are below it
+abbrev pub portCount : ℕ
+portCount = 256
+
+-- modes are below it
+abbrev pub modeCount : ℕ
+modeCount = 16
+
+-- records of a table
+abbrev pub places : ℕ
+places = 16
+
+-- cells of a place
+abbrev pub stride : ℕ
+stride = 28
+
+-- cells of a table
+abbrev pub tableSize : ℕ
+tableSize = places * stride
+
+-- 0 free, 1 physical and unjoined, 2 physical and joined, 3 virtual
+abbrev pub wiringIndex : ℕ
+wiringIndex = 0
+
+abbrev pub portIndex : ℕ
+portIndex = 1
+
+abbrev pub deviceIndex : ℕ
+deviceIndex = 2
+
+-- a joined port's virtual port, or a virtual port's first member
+abbrev pub firstIndex : ℕ
+firstIndex = 3
+
+-- a virtual port's second member
+abbrev pub secondIndex : ℕ
+secondIndex = 4
+
+abbrev pub stateIndex : ℕ
+stateIndex = 5
+
+-- the first of three: the mode plus one (0: none), the delta, the notify
+abbrev pub askedIndex : ℕ
+askedIndex = 6
+
+abbrev pub answeredIndex : ℕ
+answeredIndex = 9
+
+-- the first of sixteen, by mode: 0 none, else the format's four bytes, the first the least significant
+abbrev pub formatsIndex : ℕ
+formatsIndex = 12
