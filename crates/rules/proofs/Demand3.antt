@@ -8,11 +8,13 @@ use lib.Dec.{leb}
 use lib.ListN.{replicate}
 use Rattle.protocol.specs.Number.{Bytes}
 use Rattle.rules.specs.Layout.{portCount, places}
+use Rattle.rules.specs.Answer.{Answer, refused, accepted}
+use Rattle.rules.specs.Effect.{Effect}
 use Rattle.rules.specs.Facts.{View, Ports}
 use Rattle.rules.specs.History.{History, sinceAttached, viewOfHistory, presentBelow, fullHistory, portsOfHistory}
 use Rattle.rules.specs.Table.{Table, viewOfTable, modesOfTable, portsOfTable, fullTable, apply}
 use Rattle.rules.specs.Cells.{cellsOf, tableAt, emptyCells}
-use Rattle.rules.specs.Offer.{Entry, Verdict, refused, accepts, judgeEntry, handEntry, offerCells, appliedTo, cellsAfter, handCells, remember, heard}
+use Rattle.rules.specs.Offer.{Entry, judgeEntry, datasetEntry, offerByCells, appliedTo, cellsAfter, datasetByCells, extendHistory, acceptedHistory}
 use Rattle.rules.specs.Demand3.{Agree, AgreeThrough, AllBytes, Demand3}
 use Rattle.rules.proofs.Lookup.{mapFacts}
 use Rattle.rules.proofs.Pairs.{pairs-none}
@@ -47,31 +49,31 @@ all-ports t h s f = λ i. record { view = views t h s f i; modes = λ q. same-mo
 same-verdict : (t : Table) (h : History) → Sound t → Follows t h → (e : Entry) → judgeEntry (portsOfTable t) e ≡ judgeEntry (portsOfHistory h) e
 same-verdict t h s f e = ap (λ (p : Ports). judgeEntry p e) (all-ports t h s f)
 
-same-dataset : (t : Table) (h : History) → Sound t → Follows t h → (e : Entry) (n : ℕ) → handCells (cellsOf t) e n ≡ handEntry (portsOfHistory h) e n
-unfolding handCells
-same-dataset t h s f e n = rw (is-sound t s, back t s) (ap (λ (p : Ports). handEntry p e n) (all-ports t h s f))
+same-dataset : (t : Table) (h : History) → Sound t → Follows t h → (e : Entry) (n : ℕ) → datasetByCells (cellsOf t) e n ≡ datasetEntry (portsOfHistory h) e n
+unfolding datasetByCells
+same-dataset t h s f e n = rw (is-sound t s, back t s) (ap (λ (p : Ports). datasetEntry p e n) (all-ports t h s f))
 
 -- ---- through the list
 
-agrees : (cells : List ℕ) (past : List Entry) → Holds cells (heard past) → Agree cells past
+agrees : (cells : List ℕ) (past : List Entry) → Holds cells (acceptedHistory past) → Agree cells past
 agrees cells past k =
     let t : Table = k .table in
-    let h : History = heard past in
+    let h : History = acceptedHistory past in
     record {
       ports = λ p. ap (λ (c : List ℕ). viewOfTable (tableAt c) p) (k .cells-are) ∙ ap (λ (u : Table). viewOfTable u p) (back t (k .good)) ∙ same-view t (k .good) h (k .follows) p;
       modes = λ p. ap (λ (c : List ℕ). modesOfTable (tableAt c) p) (k .cells-are) ∙ ap (λ (u : Table). modesOfTable u p) (back t (k .good)) ∙ same-mode t (k .good) h (k .follows) p;
-      datasets = λ e n. ap (λ (c : List ℕ). handCells c e n) (k .cells-are) ∙ same-dataset t h (k .good) (k .follows) e n;
+      datasets = λ e n. ap (λ (c : List ℕ). datasetByCells c e n) (k .cells-are) ∙ same-dataset t h (k .good) (k .follows) e n;
     }
 
-answers : (cells : List ℕ) (h : History) → Holds cells h → (e : Entry) → offerCells cells e ≡ judgeEntry (portsOfHistory h) e
-answers cells h k e = ap (λ (c : List ℕ). offerCells c e) (k .cells-are) ∙ judges (k .table) (k .good) e ∙ same-verdict (k .table) h (k .good) (k .follows) e
+answers : (cells : List ℕ) (h : History) → Holds cells h → (e : Entry) → offerByCells cells e ≡ judgeEntry (portsOfHistory h) e
+answers cells h k e = ap (λ (c : List ℕ). offerByCells c e) (k .cells-are) ∙ judges (k .table) (k .good) e ∙ same-verdict (k .table) h (k .good) (k .follows) e
 
 -- an answer changes the cells and the history alike
-next : (cells : List ℕ) (h : History) → Holds cells h → (e : Entry) → Bytes (e .bytes) → (v : Verdict) → judgeEntry (portsOfHistory h) e ≡ v → Holds (appliedTo cells v) (remember h v)
+next : (cells : List ℕ) (h : History) → Holds cells h → (e : Entry) → Bytes (e .bytes) → (v : Answer Effect) → judgeEntry (portsOfHistory h) e ≡ v → Holds (appliedTo cells v) (extendHistory h v)
 next cells h k e b (refused n place) j = k
-next cells h k e b (accepts x) j =
+next cells h k e b (accepted x) j =
     let t : Table = k .table in
-    let said : judgeEntry (portsOfTable t) e ≡ accepts x = same-verdict t h (k .good) (k .follows) e ∙ j in
+    let said : judgeEntry (portsOfTable t) e ≡ accepted x = same-verdict t h (k .good) (k .follows) e ∙ j in
     let a = was-accepted (portsOfTable t) e x said in
     record {
       table = apply x t;
@@ -80,16 +82,16 @@ next cells h k e b (accepts x) j =
       follows = follows-step x t h (a .count) (k .good) (k .follows) (a .good);
     }
 
-through : (cells : List ℕ) (past rest : List Entry) → AllBytes rest → Holds cells (heard past) → AgreeThrough cells past rest
+through : (cells : List ℕ) (past rest : List Entry) → AllBytes rest → Holds cells (acceptedHistory past) → AgreeThrough cells past rest
 unfolding cellsAfter
 through cells past [] b k = agrees cells past k
 through cells past (e ∷ rest) b k =
-    let h : History = heard past in
-    let same : offerCells cells e ≡ judgeEntry (portsOfHistory h) e = answers cells h k e in
-    let after : Holds (appliedTo cells (offerCells cells e)) (heard (e ∷ past)) =
+    let h : History = acceptedHistory past in
+    let same : offerByCells cells e ≡ judgeEntry (portsOfHistory h) e = answers cells h k e in
+    let after : Holds (appliedTo cells (offerByCells cells e)) (acceptedHistory (e ∷ past)) =
     rw same (next cells h k e (b .0) (judgeEntry (portsOfHistory h) e) refl)
     in
-    (agrees cells past k, same, through (appliedTo cells (offerCells cells e)) (e ∷ past) rest (b .1) after)
+    (agrees cells past k, same, through (appliedTo cells (offerByCells cells e)) (e ∷ past) rest (b .1) after)
 
 -- ---- at the start
 
@@ -111,7 +113,7 @@ empty-table-sound = record {
   pairs = pairs-none (wiredIn (replicate places none)) (λ q. ap wiring? (none-seen places q));
 }
 
-at-start : Holds emptyCells (heard [])
+at-start : Holds emptyCells (acceptedHistory [])
 unfolding sinceAttached
 at-start = record {
   table = replicate places none;

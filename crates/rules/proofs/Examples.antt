@@ -6,15 +6,16 @@ use Rattle.protocol.specs.Form.{layout, informationType, longestModeText}
 use Rattle.protocol.specs.Number.{littleEndian, bigEndian}
 use Rattle.protocol.specs.Types.{types, hubAttachedIo, portInformation, portModeInformation, hubActions, downAction, virtualPortSetup}
 use Rattle.rules.specs.Effect.{effectOf}
+use Rattle.rules.specs.ValueLookup.{valueLookup}
 use Rattle.rules.specs.Judge.{judge}
-use Rattle.rules.specs.Value.{datasetOf, hand}
+use Rattle.rules.specs.Dataset.{datasetOf, datasetAnswer}
 use Rattle.rules.specs.Learn.{learn}
-use Rattle.rules.specs.Told.{settingsOf}
+use Rattle.rules.specs.Latest.{settingsOf}
 use Rattle.rules.specs.WellFormed.{wellFormed}
 use Rattle.rules.specs.History.{sinceAttached, viewOfHistory, modesOfHistory, fullHistory}
-use Rattle.rules.specs.Offer.{judgeEntry, handEntry}
+use Rattle.rules.specs.Offer.{judgeEntry, datasetEntry}
 use Rattle.rules.specs.Examples.{ExamplesHold}
 
 pub examples-hold : ExamplesHold
-unfolding decode decodeWay decodeType decodeForm layout informationType longestModeText littleEndian bigEndian ofBits types hubAttachedIo portInformation portModeInformation hubActions downAction virtualPortSetup effectOf judge datasetOf hand settingsOf sinceAttached viewOfHistory modesOfHistory fullHistory judgeEntry handEntry learn wellFormed
+unfolding decode decodeWay decodeType decodeForm layout informationType longestModeText littleEndian bigEndian ofBits types hubAttachedIo portInformation portModeInformation hubActions downAction virtualPortSetup effectOf valueLookup judge datasetOf datasetAnswer settingsOf sinceAttached viewOfHistory modesOfHistory fullHistory judgeEntry datasetEntry learn wellFormed
 examples-hold = refl

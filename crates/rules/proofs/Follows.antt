@@ -10,7 +10,7 @@ use lib.Dec.{eqb}
 use Rattle.protocol.proofs.Tests.{which}
 use Rattle.rules.specs.Effect.{Change}
 use Rattle.rules.specs.Facts.{Wiring, Unjoined, Joined, Virtual, Facts}
-use Rattle.rules.specs.History.{History, Attachment, plain, pair, Since, absent, since, tell, unlessMember, sinceAttached, names?, deviceOf}
+use Rattle.rules.specs.History.{History, Attachment, plain, pair, Since, absent, since, addChange, unlessMember, sinceAttached, isPartner, deviceOf}
 use Rattle.rules.specs.Learn.{learn}
 use Rattle.rules.specs.Table.{Record, Table, fullTable, viewOfTable, insert, change, remove, wired, onSettings}
 use Rattle.rules.proofs.Lookup.{mapFacts, cond-ap, after, view-change, view-remove, view-insert}
@@ -33,7 +33,7 @@ attachedAs (pair device a b) = Virtual a b
 -- what a history says of a port, but for a joined port's partner
 abbrev pub factsSince : Since → Option Facts
 factsSince absent = none
-factsSince (since a told) = some (record { device = deviceOf a; wiring = attachedAs a; settings = learnt told })
+factsSince (since a changes) = some (record { device = deviceOf a; wiring = attachedAs a; settings = learnt changes })
 
 abbrev pub Follows : Table → History → Type 0
 Follows t h = (q : ℕ) → mapFacts unwire (viewOfTable t q) ≡ factsSince (sinceAttached q h)
@@ -41,19 +41,19 @@ Follows t h = (q : ℕ) → mapFacts unwire (viewOfTable t q) ≡ factsSince (si
 -- ---- on the side of the history
 
 -- one port is told something
-pub facts-told : (b : Bool) (c : Change) (s : Since) → factsSince (cond b (tell c s) s) ≡ cond b (mapFacts (onSettings (learn c)) (factsSince s)) (factsSince s)
+pub facts-told : (b : Bool) (c : Change) (s : Since) → factsSince (cond b (addChange c s) s) ≡ cond b (mapFacts (onSettings (learn c)) (factsSince s)) (factsSince s)
 facts-told true c absent = refl
-facts-told true c (since a told) = refl
+facts-told true c (since a changes) = refl
 facts-told false c s = refl
 
 -- a member's detachment ends a virtual port, and no other
-pub not-ended : (p : ℕ) (s : Since) → names? p s ≡ false → unlessMember p s ≡ s
+pub not-ended : (p : ℕ) (s : Since) → isPartner p s ≡ false → unlessMember p s ≡ s
 not-ended p absent e = refl
-not-ended p (since a told) e = ap (λ (b : Bool). cond b absent (since a told)) e
+not-ended p (since a changes) e = ap (λ (b : Bool). cond b absent (since a changes)) e
 
-pub ended : (p : ℕ) (s : Since) → names? p s ≡ true → unlessMember p s ≡ absent
+pub ended : (p : ℕ) (s : Since) → isPartner p s ≡ true → unlessMember p s ≡ absent
 ended p absent e = refl
-ended p (since a told) e = ap (λ (b : Bool). cond b absent (since a told)) e
+ended p (since a changes) e = ap (λ (b : Bool). cond b absent (since a changes)) e
 
 -- ---- on the side of the table
 
@@ -86,4 +86,4 @@ pub core-remove : (p : ℕ) (t : Table) (q : ℕ) → mapFacts unwire (viewOfTab
 core-remove p t q = ap (mapFacts unwire) (view-remove p t q) ∙ cond-ap (mapFacts unwire) (eqb p q) none (viewOfTable t q)
 
 pub core-insert : (new : Record) (t : Table) → fullTable t ≡ false → viewOfTable t (new .port) ≡ none → (q : ℕ) → mapFacts unwire (viewOfTable (insert new t) q) ≡ cond (eqb (new .port) q) (some (unwire (new .facts))) (mapFacts unwire (viewOfTable t q))
-core-insert new t room fresh q = ap (mapFacts unwire) (view-insert new t q room fresh) ∙ cond-ap (mapFacts unwire) (eqb (new .port) q) (some (new .facts)) (viewOfTable t q)
+core-insert new t refusalIfFull fresh q = ap (mapFacts unwire) (view-insert new t q refusalIfFull fresh) ∙ cond-ap (mapFacts unwire) (eqb (new .port) q) (some (new .facts)) (viewOfTable t q)

@@ -12,7 +12,7 @@ use Rattle.protocol.proofs.Tests.{and-left, and-right}
 use Rattle.rules.specs.Layout.{portCount}
 use Rattle.rules.specs.Effect.{Change, Effect, Nothing, ToPort, Attach, AttachVirtual, Detach, Value, Disconnect, Connect, Empty}
 use Rattle.rules.specs.Facts.{Wiring, Unjoined, Joined, Virtual, isUnjoined, Facts, known}
-use Rattle.rules.specs.Judge.{unjoinedHere, goodPair, judge}
+use Rattle.rules.specs.Judge.{presentUnjoined, pairTest, judge}
 use Rattle.rules.specs.Learn.{learn}
 use Rattle.rules.specs.Ranges.{changeFits, effectFits}
 use Rattle.rules.specs.Table.{Table, fullTable, viewOfTable, portsOfTable, freed, wiredAs, dissolve, detachBy, bare, newRecord, onSettings, apply, remove, dissolveBy}
@@ -35,14 +35,14 @@ fit-learn p c good f k = record { small = k .small; device = k .device; settings
 
 pub record Fresh (t : Table) (p : ℕ) : Type 0 where
   pub absent : viewOfTable t p ≡ none
-  pub room : fullTable t ≡ false
+  pub refusalIfFull : fullTable t ≡ false
 
 pub fresh-by : (x : Option Facts) (full : Bool) → _≡_ {A = ℕ} (cond (known x) 11 (cond full 13 0)) 0 → (x ≡ none) × (full ≡ false)
 fresh-by none true e = let z : _≡_ {A = ℕ} 13 0 = e in absurd (omega arith)
 fresh-by none false e = (refl, refl)
 fresh-by (some f) full e = let z : _≡_ {A = ℕ} 11 0 = e in absurd (omega arith)
 
-unjoined-wired : (x : Option Facts) → unjoinedHere x ≡ true → wiring? x ≡ some Unjoined
+unjoined-wired : (x : Option Facts) → presentUnjoined x ≡ true → wiring? x ≡ some Unjoined
 unjoined-wired none e = let z : _≡_ {A = ℕ} 0 1 = cc in absurd (omega arith)
 unjoined-wired (some f) e = ap some (go (f .wiring) e)
   where
@@ -60,13 +60,13 @@ pub not-same : (b : Bool) → not b ≡ true → b ≡ false
 not-same true e = let z : _≡_ {A = ℕ} 0 1 = cc in absurd (omega arith)
 not-same false e = refl
 
-pub good-pair : (t : Table) (a b : ℕ) → goodPair (viewOfTable t) a b ≡ true → Good t a b
+pub good-pair : (t : Table) (a b : ℕ) → pairTest (viewOfTable t) a b ≡ true → Good t a b
 good-pair t a b e =
-    let both = and-left (unjoinedHere (viewOfTable t a) && unjoinedHere (viewOfTable t b)) (not (eqb a b)) e in
+    let both = and-left (presentUnjoined (viewOfTable t a) && presentUnjoined (viewOfTable t b)) (not (eqb a b)) e in
     record {
-      one = unjoined-wired (viewOfTable t a) (and-left (unjoinedHere (viewOfTable t a)) (unjoinedHere (viewOfTable t b)) both);
-      two = unjoined-wired (viewOfTable t b) (and-right (unjoinedHere (viewOfTable t a)) (unjoinedHere (viewOfTable t b)) both);
-      apart = eqb-false a b (not-same (eqb a b) (and-right (unjoinedHere (viewOfTable t a) && unjoinedHere (viewOfTable t b)) (not (eqb a b)) e));
+      one = unjoined-wired (viewOfTable t a) (and-left (presentUnjoined (viewOfTable t a)) (presentUnjoined (viewOfTable t b)) both);
+      two = unjoined-wired (viewOfTable t b) (and-right (presentUnjoined (viewOfTable t a)) (presentUnjoined (viewOfTable t b)) both);
+      apart = eqb-false a b (not-same (eqb a b) (and-right (presentUnjoined (viewOfTable t a) && presentUnjoined (viewOfTable t b)) (not (eqb a b)) e));
     }
 
 pub virtual-by : (x : Option Facts) (good full : Bool) → _≡_ {A = ℕ} (cond (known x) 11 (cond good (cond full 13 0) 12)) 0 → (x ≡ none) × (good ≡ true) × (full ≡ false)
@@ -114,7 +114,7 @@ keeps (Attach p d) t n s fits ok =
     let fresh = fresh-by (viewOfTable t p) (fullTable t) ok in
     sound-attach (newRecord p d Unjoined) t s (fresh .1) (fresh .0) refl (fit-bare p d Unjoined (and-left (ltb p portCount) (ltb d 65536) fits) (and-right (ltb p portCount) (ltb d 65536) fits))
 keeps (AttachVirtual p d a b) t n s fits ok =
-    let fresh = virtual-by (viewOfTable t p) (goodPair (viewOfTable t) a b) (fullTable t) ok in
+    let fresh = virtual-by (viewOfTable t p) (pairTest (viewOfTable t) a b) (fullTable t) ok in
     let good = good-pair t a b (fresh .1) in
     let three-fit = and-left (ltb p portCount && ltb d 65536 && ltb a portCount) (ltb b portCount) fits in
     let two-fit = and-left (ltb p portCount && ltb d 65536) (ltb a portCount) three-fit in

@@ -8,7 +8,9 @@ use native.Mathlib.Omega.{arith}
 use borrow.Author.Tests.{eq-eqb}
 use Rattle.rules.specs.Table.{Table, portsOfTable, remove, apply}
 use Rattle.rules.specs.Cells.{tableAt, sound}
-use Rattle.rules.specs.Offer.{Verdict, refused, accepts, judgeEntry, offerCells, appliedTo, cellsAfter}
+use Rattle.rules.specs.Answer.{Answer, refused, accepted}
+use Rattle.rules.specs.Effect.{Effect}
+use Rattle.rules.specs.Offer.{judgeEntry, offerByCells, appliedTo, cellsAfter}
 use Rattle.rules.specs.Laws.{EmptySound, StepKeepsSound, RefusedChangesNothing, FreedIsEmpty, LowestPlace}
 use Rattle.rules.proofs.Sound.{Sound}
 use Rattle.rules.proofs.CellsSound as CellsSound
@@ -25,12 +27,12 @@ table-sound cells e =
     formed-sound (tableAt cells) (k .2) (k .3) (k .1)
 
 pub step-keeps-sound : StepKeepsSound
-unfolding cellsAfter offerCells
+unfolding cellsAfter offerByCells
 step-keeps-sound cells e b s = rw s (go (judgeEntry (portsOfTable (tableAt cells)) e) refl)
   where
-    go : (v : Verdict) → judgeEntry (portsOfTable (tableAt cells)) e ≡ v → sound (appliedTo cells v) ≡ true
+    go : (v : Answer Effect) → judgeEntry (portsOfTable (tableAt cells)) e ≡ v → sound (appliedTo cells v) ≡ true
     go (refused n place) k = s
-    go (accepts x) k = is-sound (apply x (tableAt cells)) (kept (tableAt cells) (table-sound cells s) e b x k)
+    go (accepted x) k = is-sound (apply x (tableAt cells)) (kept (tableAt cells) (table-sound cells s) e b x k)
 
 pub refused-changes-nothing : RefusedChangesNothing
 unfolding cellsAfter

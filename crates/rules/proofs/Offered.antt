@@ -13,16 +13,17 @@ use Rattle.protocol.proofs.Tests.{which}
 use Rattle.protocol.specs.Number.{Bytes}
 use Rattle.protocol.specs.Field.{Value}
 use Rattle.protocol.specs.Form.{Form}
-use Rattle.protocol.specs.Decode.{Answer, accepted, decode, openOf}
+use Rattle.protocol.specs.Decode.{decode, openOf}
 use Rattle.protocol.specs.Decode as Decode
 use Rattle.protocol.specs.Answer.{messageOf}
+use Rattle.rules.specs.Answer.{Answer, refused, accepted, unlessRefused}
 use Rattle.rules.specs.Effect.{Effect, effectOf}
 use Rattle.rules.specs.Facts.{Facts, Ports}
 use Rattle.rules.specs.Judge.{judge}
 use Rattle.rules.specs.Ranges.{effectFits}
 use Rattle.rules.specs.Table.{Table, viewOfTable, portsOfTable, apply}
 use Rattle.rules.specs.Cells.{cellsOf, tableAt, sound}
-use Rattle.rules.specs.Offer.{Entry, refused, accepts, verdict, judgeAnswer, judgeEntry, offerCells}
+use Rattle.rules.specs.Offer.{Entry, judgeReading, judgeEntry, offerByCells}
 use Rattle.rules.proofs.Sound.{Distinct, Sound, found-later, sound-formed}
 use Rattle.rules.proofs.CellsTable.{NoHighFormats, table-back}
 use Rattle.rules.proofs.CellsSound.{sound-cells}
@@ -34,29 +35,37 @@ use Rattle.rules.proofs.Kept.{keeps}
 pub record Accepted (ports : Ports) (e : Entry) (effect : Effect) : Type 0 where
   pub form : Form
   pub values : List Value
-  pub read : decode (e .way) (e .bytes) ≡ accepted form values
+  pub read : decode (e .way) (e .bytes) ≡ Decode.accepted form values
   pub is : effect ≡ effectOf (messageOf form values)
   pub count : ℕ
   pub good : judge ports effect count ≡ 0
 
-verdict-accepts : (n : ℕ) (x y : Effect) → verdict n x ≡ accepts y → (n ≡ 0) × (x ≡ y)
-verdict-accepts n x y e =
+never : {A : Type 0} (n place : ℕ) (y : A) → refused n place ≡ accepted y → ⊥
+never n place y e = let z : _≡_ {A = ℕ} 0 1 = cc in omega arith
+
+same : {A : Type 0} (x y : A) → accepted x ≡ accepted y → x ≡ y
+same x y e = cc
+
+-- the test passed, and this is the answer
+unless-accepted : {A : Type 0} (n : ℕ) (a : Answer A) (y : A) → unlessRefused n a ≡ accepted y → (n ≡ 0) × (a ≡ accepted y)
+unless-accepted n a y e =
     ⊎-elim
-    (λ (k : eqb n 0 ≡ true). let a : accepts x ≡ accepts y = rw k at e in (eqb-true n 0 k, (let same : x ≡ y = cc in same)))
-    (λ (k : eqb n 0 ≡ false). let a : refused n 0 ≡ accepts y = rw k at e in let z : _≡_ {A = ℕ} 0 1 = cc in absurd (omega arith))
+    (λ (k : eqb n 0 ≡ true). (eqb-true n 0 k, rw k at e))
+    (λ (k : eqb n 0 ≡ false). absurd (never _ _ y (rw k at e)))
     (which (eqb n 0))
 
-pub was-accepted : (ports : Ports) (e : Entry) (effect : Effect) → judgeEntry ports e ≡ accepts effect → Accepted ports e effect
+pub was-accepted : (ports : Ports) (e : Entry) (effect : Effect) → judgeEntry ports e ≡ accepted effect → Accepted ports e effect
 unfolding judgeEntry
 was-accepted ports e effect k = go (decode (e .way) (e .bytes)) refl k
   where
-    go : (a : Answer) → decode (e .way) (e .bytes) ≡ a → judgeAnswer ports (e .bytes) a ≡ accepts effect → Accepted ports e effect
+    go : (a : Decode.Answer) → decode (e .way) (e .bytes) ≡ a → judgeReading ports (e .bytes) a ≡ accepted effect → Accepted ports e effect
     go (Decode.refused n place) r j = let z : _≡_ {A = ℕ} 0 1 = cc in absurd (omega arith)
-    go (accepted f vs) r j =
+    go (Decode.accepted f vs) r j =
         let x : Effect = effectOf (messageOf f vs) in
-        let count : ℕ = length (openOf (e .bytes) (accepted f vs)) in
-        let v = verdict-accepts (judge ports x count) x effect j in
-        record { form = f; values = vs; read = r; is = sym (v .1); count = count; good = ap (λ (y : Effect). judge ports y count) (sym (v .1)) ∙ v .0 }
+        let count : ℕ = length (openOf (e .bytes) (Decode.accepted f vs)) in
+        let v = unless-accepted (judge ports x count) (accepted x) effect j in
+        let is : effect ≡ x = sym (same x effect (v .1)) in
+        record { form = f; values = vs; read = r; is = is; count = count; good = ap (λ (y : Effect). judge ports y count) is ∙ v .0 }
 
 -- ---- the cells of a sound table
 
@@ -77,11 +86,11 @@ module _ (t : Table) (s : Sound t) where
   pub is-sound : sound (cellsOf t) ≡ true
   is-sound = sound-cells t (s .loose .size) high (sound-formed t s)
 
-  pub judges : (e : Entry) → offerCells (cellsOf t) e ≡ judgeEntry (portsOfTable t) e
-  unfolding offerCells
+  pub judges : (e : Entry) → offerByCells (cellsOf t) e ≡ judgeEntry (portsOfTable t) e
+  unfolding offerByCells
   judges e = rw (is-sound, back)
 
-  pub kept : (e : Entry) → Bytes (e .bytes) → (x : Effect) → judgeEntry (portsOfTable t) e ≡ accepts x → Sound (apply x t)
+  pub kept : (e : Entry) → Bytes (e .bytes) → (x : Effect) → judgeEntry (portsOfTable t) e ≡ accepted x → Sound (apply x t)
   kept e b x k =
       let a = was-accepted (portsOfTable t) e x k in
       keeps x t (a .count) s (ap effectFits (a .is) ∙ effect-fits (e .way) (e .bytes) b (a .form) (a .values) (a .read)) (a .good)

@@ -15,7 +15,7 @@ use Rattle.protocol.specs.declared.Message.the-variants as Message'
 use Rattle.rules.specs.Effect.{Effect, Nothing, ToPort, Attach, AttachVirtual, Detach, Value, Disconnect, Connect, Empty, effectOf}
 use Rattle.rules.specs.Facts.{Ports}
 use Rattle.rules.specs.Judge.{judge}
-use Rattle.rules.specs.Value.{hand}
+use Rattle.rules.specs.Dataset.{datasetAnswer}
 
 abbrev isValue : Effect → Bool
 isValue Nothing = false
@@ -28,22 +28,22 @@ isValue (Disconnect port) = false
 isValue (Connect a b) = false
 isValue Empty = false
 
--- with any bytes it is judged alike, and hands out the same
+-- with any bytes it is judged alike, and datasets out the same
 pub record Alike (e : Effect) (b c : List ℕ) : Type 0 where
   pub judges : (ports : Ports) → judge ports e (length b) ≡ judge ports e (length c)
-  pub hands : (ports : Ports) (n : ℕ) → hand ports e b n ≡ hand ports e c n
+  pub datasets : (ports : Ports) (n : ℕ) → datasetAnswer ports e b n ≡ datasetAnswer ports e c n
 
 alike : (e : Effect) (b c : List ℕ) → isValue e ≡ false → Alike e b c
-unfolding judge hand
-alike Nothing b c h = record { judges = λ ports. refl; hands = λ ports n. refl }
-alike (ToPort port x) b c h = record { judges = λ ports. refl; hands = λ ports n. refl }
-alike (Attach port device) b c h = record { judges = λ ports. refl; hands = λ ports n. refl }
-alike (AttachVirtual port device x y) b c h = record { judges = λ ports. refl; hands = λ ports n. refl }
-alike (Detach port) b c h = record { judges = λ ports. refl; hands = λ ports n. refl }
+unfolding judge datasetAnswer
+alike Nothing b c h = record { judges = λ ports. refl; datasets = λ ports n. refl }
+alike (ToPort port x) b c h = record { judges = λ ports. refl; datasets = λ ports n. refl }
+alike (Attach port device) b c h = record { judges = λ ports. refl; datasets = λ ports n. refl }
+alike (AttachVirtual port device x y) b c h = record { judges = λ ports. refl; datasets = λ ports n. refl }
+alike (Detach port) b c h = record { judges = λ ports. refl; datasets = λ ports n. refl }
 alike (Value port) b c h = let z : _≡_ {A = ℕ} 0 1 = cc in absurd (omega arith)
-alike (Disconnect port) b c h = record { judges = λ ports. refl; hands = λ ports n. refl }
-alike (Connect x y) b c h = record { judges = λ ports. refl; hands = λ ports n. refl }
-alike Empty b c h = record { judges = λ ports. refl; hands = λ ports n. refl }
+alike (Disconnect port) b c h = record { judges = λ ports. refl; datasets = λ ports n. refl }
+alike (Connect x y) b c h = record { judges = λ ports. refl; datasets = λ ports n. refl }
+alike Empty b c h = record { judges = λ ports. refl; datasets = λ ports n. refl }
 
 action-alike : (x : Bool) → isValue (cond x Empty Nothing) ≡ false
 action-alike true = refl
@@ -92,6 +92,6 @@ open-alike m s =
     (λ (h : isValue (effectOf m) ≡ false). alike (effectOf m) (openOf s (accepted (formOf m) (valuesOf m))) (drop 4 s) h)
     (λ (e : openOf s (accepted (formOf m) (valuesOf m)) ≡ drop 4 s). record {
       judges = λ ports. ap (λ (b : List ℕ). judge ports (effectOf m) (length b)) e;
-      hands = λ ports n. ap (λ (b : List ℕ). hand ports (effectOf m) b n) e;
+      datasets = λ ports n. ap (λ (b : List ℕ). datasetAnswer ports (effectOf m) b n) e;
     })
     (value-bytes m s)

@@ -1,5 +1,5 @@
--- Demand 3's half on settings: what the table learns of a port is what the reader finds in the list of what the port was
--- told. There are no ports here, and no tables.
+-- Demand 3's half on settings: what the table learns of a port, change by change, is what the reader finds by going
+-- back through the list of changes. There are no ports here, and no tables.
 use Prim.Native.Nat.{ℕ}
 use mathlib.Core.Path.{_≡_, refl, _∙_, ap}
 use mathlib.Core.Bool.{Bool, true, false, cond, not, _&&_, _||_}
@@ -9,12 +9,12 @@ use lib.Dec.{eqb}
 use Rattle.rules.specs.Effect.{Change, Unchanged, Formatted, Answered, Asked}
 use Rattle.rules.specs.Facts.{Setup, Format, Settings}
 use Rattle.rules.specs.Learn.{answeredState, bareSettings, learn}
-use Rattle.rules.specs.Told.{orElse, latest, formatFor, answer, asking, sinceAsking, stateBy, settingsOf}
+use Rattle.rules.specs.Latest.{orElse, latest, formatFor, answer, asking, sinceAsking, stateBy, settingsOf}
 
 -- what the table has learnt of a list of changes, the latest first
 abbrev pub learnt : List Change → Settings
 learnt [] = bareSettings
-learnt (c ∷ told) = learn c (learnt told)
+learnt (c ∷ changes) = learn c (learnt changes)
 
 -- the two comparisons
 three-tests : (a b c : Bool) → _≡_ {A = ℕ} (cond (a && b && c) 2 3) (cond (not a || not b || not c) 3 2)
@@ -32,24 +32,24 @@ same-format true f old = refl
 same-format false f old = refl
 
 -- one change more
-learns : (c : Change) (told : List Change) → learn c (settingsOf told) ≡ settingsOf (c ∷ told)
+learns : (c : Change) (changes : List Change) → learn c (settingsOf changes) ≡ settingsOf (c ∷ changes)
 unfolding learn settingsOf
-learns Unchanged told = refl
-learns (Formatted m f) told = λ i. record {
-  formats = λ mode. same-format (eqb m mode) f (latest (formatFor mode) told) i;
-  answered = latest answer told;
-  asked = latest asking told;
-  state = stateBy (latest asking told) (latest answer (sinceAsking told));
+learns Unchanged changes = refl
+learns (Formatted m f) changes = λ i. record {
+  formats = λ mode. same-format (eqb m mode) f (latest (formatFor mode) changes) i;
+  answered = latest answer changes;
+  asked = latest asking changes;
+  state = stateBy (latest asking changes) (latest answer (sinceAsking changes));
 }
-learns (Answered s) told = λ i. record {
-  formats = λ mode. latest (formatFor mode) told;
+learns (Answered s) changes = λ i. record {
+  formats = λ mode. latest (formatFor mode) changes;
   answered = some s;
-  asked = latest asking told;
-  state = same-state (latest asking told) s i;
+  asked = latest asking changes;
+  state = same-state (latest asking changes) s i;
 }
-learns (Asked s) told = refl
+learns (Asked s) changes = refl
 
-pub same-settings : (told : List Change) → learnt told ≡ settingsOf told
+pub same-settings : (changes : List Change) → learnt changes ≡ settingsOf changes
 unfolding settingsOf
 same-settings [] = refl
-same-settings (c ∷ told) = ap (learn c) (same-settings told) ∙ learns c told
+same-settings (c ∷ changes) = ap (learn c) (same-settings changes) ∙ learns c changes

@@ -11,8 +11,8 @@ use lib.Dec.{eqb}
 use Rattle.protocol.proofs.Tests.{which}
 use Rattle.rules.specs.Effect.{Effect, Nothing, ToPort, Attach, AttachVirtual, Detach, Value, Disconnect, Connect, Empty}
 use Rattle.rules.specs.Facts.{Wiring, Unjoined, Joined, Virtual, Facts, known}
-use Rattle.rules.specs.Judge.{goodPair, judge}
-use Rattle.rules.specs.History.{History, plain, pair, Since, absent, since, unlessMember, sinceAttached, names?}
+use Rattle.rules.specs.Judge.{pairTest, judge}
+use Rattle.rules.specs.History.{History, plain, pair, Since, absent, since, unlessMember, sinceAttached, isPartner}
 use Rattle.rules.specs.Learn.{learn}
 use Rattle.rules.specs.Table.{Table, fullTable, viewOfTable, portsOfTable, insert, change, remove, wired, onSettings, wiredAs, dissolve, detachBy, bare, newRecord, apply}
 use Rattle.rules.specs.WellFormed.{pairWith}
@@ -29,7 +29,7 @@ abbrev pub pairIn : ℕ → Option Wiring → Bool
 pairIn p none = false
 pairIn p (some w) = pairWith p w
 
-names-pair : (p : ℕ) (s : Since) → names? p s ≡ pairIn p (wiring? (factsSince s))
+names-pair : (p : ℕ) (s : Since) → isPartner p s ≡ pairIn p (wiring? (factsSince s))
 names-pair p absent = refl
 names-pair p (since (plain d) l) = refl
 names-pair p (since (pair d a b) l) = refl
@@ -44,7 +44,7 @@ core-pair p (some f) = go (f .wiring)
     go (Virtual a b) = refl
 
 -- the history and the table say alike which virtual port names which member
-pub member-is : (t : Table) (h : History) → Follows t h → (q p : ℕ) → names? p (sinceAttached q h) ≡ pairIn p (wiredIn t q)
+pub member-is : (t : Table) (h : History) → Follows t h → (q p : ℕ) → isPartner p (sinceAttached q h) ≡ pairIn p (wiredIn t q)
 member-is t h f q p = names-pair p (sinceAttached q h) ∙ sym (ap (λ (x : Option Facts). pairIn p (wiring? x)) (f q)) ∙ core-pair p (viewOfTable t q)
 
 pub either-is : (a b p : ℕ) → (eqb a p || eqb b p) ≡ true → (a ≡ p) ⊎ (b ≡ p)
@@ -63,7 +63,7 @@ pair-joins w s p q (some (Virtual a b)) k e =
 
 -- no virtual port names a port that is not joined to it
 module _ (t : Table) (s : Sound t) (h : History) (f : Follows t h) (p : ℕ) where
-  no-member : (q : ℕ) → (wiredIn t p ≡ some (Joined q) → ⊥) → names? p (sinceAttached q h) ≡ false
+  no-member : (q : ℕ) → (wiredIn t p ≡ some (Joined q) → ⊥) → isPartner p (sinceAttached q h) ≡ false
   no-member q n =
       member-is t h f q p
       ∙ ⊎-elim (λ (e : pairIn p (wiredIn t q) ≡ true). absurd (n (pair-joins (wiredIn t) (s .pairs) p q (wiredIn t q) refl e)))
@@ -80,10 +80,10 @@ module _ (t : Table) (s : Sound t) (h : History) (f : Follows t h) (p : ℕ) whe
   stays q n = f q ∙ ap factsSince (sym (not-ended p (sinceAttached q h) (no-member q n)))
 
   -- the virtual port of this one goes with it
-  goes : (v : ℕ) → wiredIn t p ≡ some (Joined v) → names? p (sinceAttached v h) ≡ true → (q : ℕ) → cond (eqb v q) none (mapFacts unwire (viewOfTable t q)) ≡ factsSince (unlessMember p (sinceAttached q h))
+  goes : (v : ℕ) → wiredIn t p ≡ some (Joined v) → isPartner p (sinceAttached v h) ≡ true → (q : ℕ) → cond (eqb v q) none (mapFacts unwire (viewOfTable t q)) ≡ factsSince (unlessMember p (sinceAttached q h))
   goes v here m q =
       ⊎-elim
-      (λ (e : eqb v q ≡ true). rw e (ap factsSince (sym (ended p (sinceAttached q h) (ap (λ (n : ℕ). names? p (sinceAttached n h)) (sym (eqb-true v q e)) ∙ m)))))
+      (λ (e : eqb v q ≡ true). rw e (ap factsSince (sym (ended p (sinceAttached q h) (ap (λ (n : ℕ). isPartner p (sinceAttached n h)) (sym (eqb-true v q e)) ∙ m)))))
       (λ (e : eqb v q ≡ false). rw e (stays q (λ (j : wiredIn t p ≡ some (Joined q)). eqb-false v q e (joined-same v q (sym here ∙ j)))))
       (which (eqb v q))
 
@@ -108,7 +108,7 @@ follows-detach t s h f p (Joined v) e =
     let n = s .pairs .up p v e in
     let known-as : wiredAs (viewOfTable t v) ≡ Virtual (n .a) (n .b) = wired-as (viewOfTable t v) (Virtual (n .a) (n .b)) (n .pair) in
     let u : Table = dissolve v (n .a) (n .b) t in
-    let m : names? p (sinceAttached v h) ≡ true = member-is t h f v p ∙ ap (pairIn p) (n .pair) ∙ or-either (n .a) (n .b) p (n .member) in
+    let m : isPartner p (sinceAttached v h) ≡ true = member-is t h f v p ∙ ap (pairIn p) (n .pair) ∙ or-either (n .a) (n .b) p (n .member) in
     rw known-as (gone t s h f p (remove p u) λ q. core-remove p u q ∙ unless p q (core-dissolve t s v (n .a) (n .b) (n .pair) q ∙ goes t s h f p v e m q))
 follows-detach t s h f p (Virtual a b) e =
     gone t s h f p (dissolve p a b t) λ q. core-dissolve t s p a b e q ∙ unless p q (stays t s h f p q (λ (k : wiredIn t p ≡ some (Joined q)). joined-virtual q a b (sym k ∙ e)))
@@ -129,17 +129,17 @@ absent-after a b p g t e =
 
 follows-attach : (t : Table) (h : History) → Follows t h → (p d : ℕ) → fullTable t ≡ false → viewOfTable t p ≡ none → Follows (insert (newRecord p d Unjoined) t) (Attach p d ∷ h)
 unfolding sinceAttached
-follows-attach t h f p d room fresh q =
-    core-insert (newRecord p d Unjoined) t room fresh q ∙ ap (λ (x : Option Facts). cond (eqb p q) (some (bare d Unjoined)) x) (f q) ∙ sym (cond-ap factsSince (eqb p q) (since (plain d) []) (sinceAttached q h))
+follows-attach t h f p d refusalIfFull fresh q =
+    core-insert (newRecord p d Unjoined) t refusalIfFull fresh q ∙ ap (λ (x : Option Facts). cond (eqb p q) (some (bare d Unjoined)) x) (f q) ∙ sym (cond-ap factsSince (eqb p q) (since (plain d) []) (sinceAttached q h))
 
 follows-virtual : (t : Table) (h : History) → Follows t h → (p d a b : ℕ) → fullTable t ≡ false → viewOfTable t p ≡ none → wiredIn t a ≡ some Unjoined → wiredIn t b ≡ some Unjoined → (a ≡ b → ⊥)
     → Follows (insert (newRecord p d (Virtual a b)) (change b (wired (Joined p)) (change a (wired (Joined p)) t))) (AttachVirtual p d a b ∷ h)
 unfolding sinceAttached
-follows-virtual t h f p d a b room fresh one two ab q =
+follows-virtual t h f p d a b refusalIfFull fresh one two ab q =
     let u : Table = change b (wired (Joined p)) (change a (wired (Joined p)) t) in
-    let room′ : fullTable u ≡ false = full-change b (wired (Joined p)) (change a (wired (Joined p)) t) ∙ full-change a (wired (Joined p)) t ∙ room in
+    let refusalIfFull′ : fullTable u ≡ false = full-change b (wired (Joined p)) (change a (wired (Joined p)) t) ∙ full-change a (wired (Joined p)) t ∙ refusalIfFull in
     let second : wiredIn (change a (wired (Joined p)) t) b ≡ some Unjoined = wired-change a (Joined p) Unjoined t one b ∙ put-other a (some (Joined p)) (wiredIn t) b ab ∙ two in
-    core-insert (newRecord p d (Virtual a b)) u room′ (absent-after a b p (wired (Joined p)) t fresh) q
+    core-insert (newRecord p d (Virtual a b)) u refusalIfFull′ (absent-after a b p (wired (Joined p)) t fresh) q
     ∙ ap (λ (x : Option Facts). cond (eqb p q) (some (bare d (Virtual a b))) x) (core-wired b (Joined p) Unjoined (change a (wired (Joined p)) t) second refl q ∙ core-wired a (Joined p) Unjoined t one refl q ∙ f q)
     ∙ sym (cond-ap factsSince (eqb p q) (since (pair d a b) []) (sinceAttached q h))
 
@@ -155,7 +155,7 @@ follows-step (Attach p d) t h n s f ok =
     let fresh = fresh-by (viewOfTable t p) (fullTable t) ok in
     follows-attach t h f p d (fresh .1) (fresh .0)
 follows-step (AttachVirtual p d a b) t h n s f ok =
-    let fresh = virtual-by (viewOfTable t p) (goodPair (viewOfTable t) a b) (fullTable t) ok in
+    let fresh = virtual-by (viewOfTable t p) (pairTest (viewOfTable t) a b) (fullTable t) ok in
     let good = good-pair t a b (fresh .1) in
     follows-virtual t h f p d a b (fresh .2) (fresh .0) (good .one) (good .two) (good .apart)
 follows-step (Detach p) t h n s f ok = detach-known t s h f p (viewOfTable t p) refl (wanted (viewOfTable t p) ok)

@@ -8,8 +8,8 @@ use native.Mathlib.Omega.{arith}
 use Rattle.protocol.proofs.Tests.{which}
 use Rattle.rules.specs.Layout.{portCount}
 use Rattle.rules.specs.Facts.{Wiring, Unjoined, Joined, Virtual, Settings, Facts, modeIn}
-use Rattle.rules.specs.History.{History, Attachment, plain, pair, Since, absent, since, sinceAttached, names?, partnerBelow, joinedBy, wiringOf, deviceOf, factsOf, viewOfHistory, modeSince, modesOfHistory}
-use Rattle.rules.specs.Told.{settingsOf}
+use Rattle.rules.specs.History.{History, Attachment, plain, pair, Since, absent, since, sinceAttached, isPartner, partnerBelow, joinedBy, wiringOf, deviceOf, factsOf, viewOfHistory, modeSince, modesOfHistory}
+use Rattle.rules.specs.Latest.{settingsOf}
 use Rattle.rules.specs.Table.{Table, viewOfTable, modeBy, modesOfTable, wired}
 use Rattle.rules.proofs.Lookup.{mapFacts}
 use Rattle.rules.proofs.Pairs.{joined-same, unjoined-joined}
@@ -19,7 +19,7 @@ use Rattle.rules.proofs.Settings.{same-settings}
 use Rattle.rules.proofs.Step.{pairIn, member-is, pair-joins}
 
 module _ (t : Table) (s : Sound t) (h : History) (f : Follows t h) (q : ℕ) where
-  named : (v : ℕ) → names? q (sinceAttached v h) ≡ pairIn q (wiredIn t v)
+  named : (v : ℕ) → isPartner q (sinceAttached v h) ≡ pairIn q (wiredIn t v)
   named v = member-is t h f v q
 
   -- the port's own virtual port is found
@@ -27,25 +27,25 @@ module _ (t : Table) (s : Sound t) (h : History) (f : Follows t h) (q : ℕ) whe
   partner-some zero v low here mine = absurd (omega arith)
   partner-some (suc m) v low here mine =
       ⊎-elim
-      (λ (e : names? q (sinceAttached m h) ≡ true).
+      (λ (e : isPartner q (sinceAttached m h) ≡ true).
       let joins : wiredIn t q ≡ some (Joined m) = pair-joins (wiredIn t) (s .pairs) q m (wiredIn t m) refl (sym (named m) ∙ e) in
       rw e (ap some (joined-same m v (sym joins ∙ here))))
-      (λ (e : names? q (sinceAttached m h) ≡ false).
+      (λ (e : isPartner q (sinceAttached m h) ≡ false).
       let apart : (v ≡ m) → ⊥ =
       λ (k : v ≡ m).
       let both : false ≡ true = sym e ∙ named m ∙ ap (λ (n : ℕ). pairIn q (wiredIn t n)) (sym k) ∙ mine in
       let z : _≡_ {A = ℕ} 0 1 = cc in absurd (omega arith)
       in
       rw e (partner-some m v (omega arith) here mine))
-      (which (names? q (sinceAttached m h)))
+      (which (isPartner q (sinceAttached m h)))
 
   partner-none : (n : ℕ) → ((v : ℕ) → wiredIn t q ≡ some (Joined v) → ⊥) → partnerBelow n h q ≡ none
   partner-none zero loose = refl
   partner-none (suc m) loose =
       ⊎-elim
-      (λ (e : names? q (sinceAttached m h) ≡ true). absurd (loose m (pair-joins (wiredIn t) (s .pairs) q m (wiredIn t m) refl (sym (named m) ∙ e))))
-      (λ (e : names? q (sinceAttached m h) ≡ false). rw e (partner-none m loose))
-      (which (names? q (sinceAttached m h)))
+      (λ (e : isPartner q (sinceAttached m h) ≡ true). absurd (loose m (pair-joins (wiredIn t) (s .pairs) q m (wiredIn t m) refl (sym (named m) ∙ e))))
+      (λ (e : isPartner q (sinceAttached m h) ≡ false). rw e (partner-none m loose))
+      (which (isPartner q (sinceAttached m h)))
 
   -- the wiring of a present port
   plain-wiring : (w : Wiring) → wiredIn t q ≡ some w → unwired w ≡ Unjoined → w ≡ joinedBy (partnerBelow portCount h q)

@@ -5,18 +5,18 @@ use mathlib.Core.Path.{_≡_}
 use mathlib.Core.List.{List, [], _∷_}
 use Rattle.protocol.specs.Number.{Bytes}
 use Rattle.rules.specs.Cells.{emptyCells}
-use Rattle.rules.specs.Offer.{Entry, offerCells, cellsAfter, handCells, viewOfCells, modesOfCells, offerPast, handPast, viewOfPast, modesOfPast}
+use Rattle.rules.specs.Offer.{Entry, offerByCells, cellsAfter, datasetByCells, viewOfCells, modesOfCells, offerByPast, datasetByPast, viewOfPast, modesOfPast}
 
 -- now: what is known of every port, and every dataset of every message that is tried
 pub record Agree (cells : List ℕ) (past : List Entry) : Type 0 where
   pub ports : (port : ℕ) → viewOfCells cells port ≡ viewOfPast past port
   pub modes : (port : ℕ) → modesOfCells cells port ≡ modesOfPast past port
-  pub datasets : (e : Entry) (number : ℕ) → handCells cells e number ≡ handPast past e number
+  pub datasets : (e : Entry) (number : ℕ) → datasetByCells cells e number ≡ datasetByPast past e number
 
 -- through a list from its start: agreement now, then on the next answer, then on the rest
 abbrev pub AgreeThrough : List ℕ → List Entry → List Entry → Type 0
 AgreeThrough cells past [] = Agree cells past
-AgreeThrough cells past (e ∷ rest) = Agree cells past × (offerCells cells e ≡ offerPast past e) × AgreeThrough (cellsAfter cells e) (e ∷ past) rest
+AgreeThrough cells past (e ∷ rest) = Agree cells past × (offerByCells cells e ≡ offerByPast past e) × AgreeThrough (cellsAfter cells e) (e ∷ past) rest
 
 -- every element of a message is a byte
 abbrev pub AllBytes : List Entry → Type 0

@@ -10,13 +10,13 @@ use lib.IntN.{pos}
 use lib.ListN.{length}
 use Rattle.protocol.specs.Form.{upFrom}
 use Rattle.protocol.specs.declared.Way.the-variants.{Down, Up}
-use Rattle.rules.specs.Effect.{setup, Formatted}
+use Rattle.rules.specs.Answer.{Answer, refused, accepted, outcome}
+use Rattle.rules.specs.Effect.{Effect, setup, Formatted}
 use Rattle.rules.specs.Facts.{Setup, Format, Wiring, Unjoined, Joined, Virtual, Facts}
 use Rattle.rules.specs.Learn.{bareSettings, learn}
-use Rattle.rules.specs.Offer.{Entry, Verdict, refused, accepts, offerPast, handPast, viewOfPast}
+use Rattle.rules.specs.Offer.{Entry, offerByPast, datasetByPast, viewOfPast}
 use Rattle.rules.specs.Table.{Record, Table}
-use Rattle.rules.specs.Value.{Handed, whole, float}
-use Rattle.rules.specs.Value as Value
+use Rattle.rules.specs.Dataset.{Dataset, Number, whole, float, stamped}
 use Rattle.rules.specs.WellFormed.{wellFormed}
 
 -- ---- messages
@@ -55,7 +55,7 @@ value bytes = up ((4 + length bytes) ∷ 0x00 ∷ 0x45 ∷ 0x00 ∷ bytes)
 abbrev five : Entry
 five = value (0x05 ∷ 0x00 ∷ 0x00 ∷ 0x00 ∷ [])
 
--- one of each form that wants its port present: 21, 22, 41, 43, 44, 45, 47 and a detachment
+-- one of each form that refusalIfAbsent its port present: 21, 22, 41, 43, 44, 45, 47 and a detachment
 abbrev wanting : List Entry
 wanting =
     request
@@ -94,10 +94,10 @@ latestFirst past [] = past
 latestFirst past (e ∷ es) = latestFirst (e ∷ past) es
 
 pub data Outcome : Type 0 where
-  -- a message's refusal number, 0 where it is accepted
-  number : ℕ → Outcome
+  -- whether a message is accepted
+  offered : Answer (Unit {0}) → Outcome
   -- one of its datasets
-  dataset : Handed → Outcome
+  dataset : Answer Dataset → Outcome
   -- a port that is not present; one that is, with its device and wiring
   absent : Outcome
   present : ℕ → Wiring → Outcome
@@ -110,10 +110,6 @@ pub record Example : Type 0 where
   pub said : Outcome
   pub wanted : Outcome
 
-abbrev numberOf : Verdict → ℕ
-numberOf (refused n place) = n
-numberOf (accepts e) = 0
-
 abbrev portOf : Option Facts → Outcome
 portOf none = absent
 portOf (some f) = present (f .device) (f .wiring)
@@ -122,11 +118,17 @@ abbrev formatOf : ℕ → Option Facts → Outcome
 formatOf mode none = absent
 formatOf mode (some f) = known (f .settings .formats mode)
 
-abbrev offers : List Entry → Entry → ℕ → Example
-offers before e n = record { said = number (numberOf (offerPast (latestFirst [] before) e)); wanted = number n }
+abbrev offers : List Entry → Entry → Answer (Unit {0}) → Example
+offers before e a = record { said = offered (outcome (offerByPast (latestFirst [] before) e)); wanted = offered a }
 
-abbrev hands : List Entry → Entry → ℕ → Handed → Example
-hands before e n h = record { said = dataset (handPast (latestFirst [] before) e n); wanted = dataset h }
+abbrev accepts : List Entry → Entry → Example
+accepts before e = offers before e (accepted tt)
+
+abbrev refuses : List Entry → Entry → ℕ → Example
+refuses before e n = offers before e (refused n 0)
+
+abbrev hands : List Entry → Entry → ℕ → Answer Dataset → Example
+hands before e n a = record { said = dataset (datasetByPast (latestFirst [] before) e n); wanted = dataset a }
 
 abbrev knows : List Entry → ℕ → Outcome → Example
 knows before port o = record { said = portOf (viewOfPast (latestFirst [] before) port); wanted = o }
@@ -175,66 +177,64 @@ abbrev sixteen : List Entry
 sixteen = map attached (upFrom 0 16)
 
 -- a value of two datasets of a kind, and the second of them
-abbrev second : ℕ → List ℕ → Handed → Example
-second kind bytes h = hands (attached 0 ∷ format 2 2 kind ∷ answered 2 1 1 ∷ []) (value bytes) 1 h
+abbrev second : ℕ → List ℕ → Number → Example
+second kind bytes n = hands (attached 0 ∷ format 2 2 kind ∷ answered 2 1 1 ∷ []) (value bytes) 1 (stamped 0 2 0 n)
 
 abbrev pub examples : List Example
 examples =
     -- the six records of the log reader's section
-    offers [] (attached 0) 0
-    ∷ offers (attached 0 ∷ []) (format 2 1 2) 0
-    ∷ offers motor five 14
-    ∷ offers motor (asked 2 1 1) 0
-    ∷ offers (motor ++ (asked 2 1 1 ∷ [])) (answered 2 1 1) 0
-    ∷ hands (motor ++ (asked 2 1 1 ∷ answered 2 1 1 ∷ [])) five 0 (whole 0 2 2 5)
+    accepts [] (attached 0)
+    ∷ accepts (attached 0 ∷ []) (format 2 1 2)
+    ∷ refuses motor five 14
+    ∷ accepts motor (asked 2 1 1)
+    ∷ accepts (motor ++ (asked 2 1 1 ∷ [])) (answered 2 1 1)
+    ∷ hands (motor ++ (asked 2 1 1 ∷ answered 2 1 1 ∷ [])) five 0 (stamped 0 2 2 (whole 5))
     -- states 0, 1 (read by the mode that was answered, not by the one asked for) and 3: another delta, notify, mode
-    ∷ hands (motor ++ (answered 2 1 1 ∷ [])) five 0 (whole 0 2 0 5)
-    ∷ hands (motor ++ (format 3 1 0 ∷ answered 2 1 1 ∷ asked 3 1 1 ∷ [])) five 0 (whole 0 2 1 5)
-    ∷ hands (motor ++ (asked 2 1 1 ∷ answered 2 9 1 ∷ [])) five 0 (whole 0 2 3 5)
-    ∷ hands (motor ++ (asked 2 1 1 ∷ answered 2 1 0 ∷ [])) five 0 (whole 0 2 3 5)
-    ∷ hands (motor ++ (asked 3 1 1 ∷ answered 2 1 1 ∷ [])) five 0 (whole 0 2 3 5)
+    ∷ hands (motor ++ (answered 2 1 1 ∷ [])) five 0 (stamped 0 2 0 (whole 5))
+    ∷ hands (motor ++ (format 3 1 0 ∷ answered 2 1 1 ∷ asked 3 1 1 ∷ [])) five 0 (stamped 0 2 1 (whole 5))
+    ∷ hands (motor ++ (asked 2 1 1 ∷ answered 2 9 1 ∷ [])) five 0 (stamped 0 2 3 (whole 5))
+    ∷ hands (motor ++ (asked 2 1 1 ∷ answered 2 1 0 ∷ [])) five 0 (stamped 0 2 3 (whole 5))
+    ∷ hands (motor ++ (asked 3 1 1 ∷ answered 2 1 1 ∷ [])) five 0 (stamped 0 2 3 (whole 5))
     -- 11, before 12
-    ∷ offers (attached 0 ∷ []) (attached 0) 11
-    ∷ offers (attached 0 ∷ []) (virtual 0 0 0) 11
+    ∷ refuses (attached 0 ∷ []) (attached 0) 11
+    ∷ refuses (attached 0 ∷ []) (virtual 0 0 0) 11
     -- 12: the same member twice, an absent one, a joined one, a virtual one
-    ∷ offers (attached 0 ∷ attached 1 ∷ []) (virtual 16 0 1) 0
-    ∷ offers (attached 0 ∷ attached 1 ∷ []) (virtual 16 0 0) 12
-    ∷ offers (attached 0 ∷ []) (virtual 16 0 1) 12
-    ∷ offers (joined ++ (attached 2 ∷ [])) (virtual 17 1 2) 12
-    ∷ offers (joined ++ (attached 2 ∷ [])) (virtual 17 2 16) 12
+    ∷ accepts (attached 0 ∷ attached 1 ∷ []) (virtual 16 0 1)
+    ∷ refuses (attached 0 ∷ attached 1 ∷ []) (virtual 16 0 0) 12
+    ∷ refuses (attached 0 ∷ []) (virtual 16 0 1) 12
+    ∷ refuses (joined ++ (attached 2 ∷ [])) (virtual 17 1 2) 12
+    ∷ refuses (joined ++ (attached 2 ∷ [])) (virtual 17 2 16) 12
     -- 61
-    ∷ offers (attached 0 ∷ attached 1 ∷ []) (connect 0 1) 0
-    ∷ offers joined (connect 0 1) 12
-    ∷ offers joined (disconnect 16) 0
-    ∷ offers joined (disconnect 0) 12
-    ∷ offers joined (disconnect 2) 10
+    ∷ accepts (attached 0 ∷ attached 1 ∷ []) (connect 0 1)
+    ∷ refuses joined (connect 0 1) 12
+    ∷ accepts joined (disconnect 16)
+    ∷ refuses joined (disconnect 0) 12
+    ∷ refuses joined (disconnect 2) 10
     -- 13 at the seventeenth; none after a detachment
-    ∷ offers sixteen (attached 16) 13
-    ∷ offers (sixteen ++ (detached 3 ∷ [])) (attached 16) 0
+    ∷ refuses sixteen (attached 16) 13
+    ∷ accepts (sixteen ++ (detached 3 ∷ [])) (attached 16)
     -- 15 to 18
-    ∷ offers (attached 0 ∷ answered 2 1 1 ∷ []) five 15
-    ∷ offers (motor ++ (answered 2 1 1 ∷ [])) (value (0x05 ∷ 0x00 ∷ 0x00 ∷ [])) 16
-    ∷ hands (motor ++ (answered 2 1 1 ∷ [])) five 1 (Value.refused 17 0)
-    ∷ hands motor (attached 1) 0 (Value.refused 17 0)
-    ∷ hands (attached 0 ∷ format 2 1 3 ∷ answered 2 1 1 ∷ []) (value (0x00 ∷ 0x00 ∷ 0x80 ∷ 0x7F ∷ [])) 0 (Value.refused 18 0)
+    ∷ refuses (attached 0 ∷ answered 2 1 1 ∷ []) five 15
+    ∷ refuses (motor ++ (answered 2 1 1 ∷ [])) (value (0x05 ∷ 0x00 ∷ 0x00 ∷ [])) 16
+    ∷ hands (motor ++ (answered 2 1 1 ∷ [])) five 1 (refused 17 0)
+    ∷ hands motor (attached 1) 0 (refused 17 0)
+    ∷ hands (attached 0 ∷ format 2 1 3 ∷ answered 2 1 1 ∷ []) (value (0x00 ∷ 0x00 ∷ 0x80 ∷ 0x7F ∷ [])) 0 (refused 18 0)
     -- two datasets of each kind, unsigned, and a float
-    ∷ second 0 (0x01 ∷ 0xFF ∷ []) (whole 0 2 0 255)
-    ∷ second 1 (0x01 ∷ 0x00 ∷ 0x02 ∷ 0x01 ∷ []) (whole 0 2 0 258)
-    ∷ second 2 (0x01 ∷ 0x00 ∷ 0x00 ∷ 0x00 ∷ 0x02 ∷ 0x00 ∷ 0x01 ∷ 0x00 ∷ []) (whole 0 2 0 65538)
-    ∷ second 3 (0x00 ∷ 0x00 ∷ 0x00 ∷ 0x00 ∷ 0x00 ∷ 0x00 ∷ 0x48 ∷ 0x43 ∷ []) (float 0 2 0 (fin false 25 (pos 3)))
+    ∷ second 0 (0x01 ∷ 0xFF ∷ []) (whole 255)
+    ∷ second 1 (0x01 ∷ 0x00 ∷ 0x02 ∷ 0x01 ∷ []) (whole 258)
+    ∷ second 2 (0x01 ∷ 0x00 ∷ 0x00 ∷ 0x00 ∷ 0x02 ∷ 0x00 ∷ 0x01 ∷ 0x00 ∷ []) (whole 65538)
+    ∷ second 3 (0x00 ∷ 0x00 ∷ 0x00 ∷ 0x00 ∷ 0x00 ∷ 0x00 ∷ 0x48 ∷ 0x43 ∷ []) (float (fin false 25 (pos 3)))
     -- members as sent; a pulled member; what is told is forgotten with the port; 30 to 32 empty the table
     ∷ knows (attached 0 ∷ attached 1 ∷ virtual 16 1 0 ∷ []) 16 (present 0x26 (Virtual 1 0))
     ∷ knows joined 1 (present 0x26 (Joined 16))
     ∷ knows (joined ++ (detached 0 ∷ [])) 16 absent
     ∷ knows (joined ++ (detached 0 ∷ [])) 1 (present 0x26 Unjoined)
-    ∷ offers (motor ++ (answered 2 1 1 ∷ detached 0 ∷ attached 0 ∷ [])) five 14
+    ∷ refuses (motor ++ (answered 2 1 1 ∷ detached 0 ∷ attached 0 ∷ [])) five 14
     ∷ formats motor 2 (some (record { datasets = 1; kind = 2; figures = 4; decimals = 0 }))
-    ∷ formats motor 3 none
     ∷ knows (joined ++ (action 0x30 ∷ [])) 1 absent
     ∷ knows (joined ++ (action 0x32 ∷ [])) 1 absent
     ∷ knows (joined ++ (shutDown ∷ [])) 1 (present 0x26 (Joined 16))
     -- a port twice; joined to nothing; a pair, its member unjoined, the same member twice, a third one joined
-    ∷ table (wired 0 Unjoined ∷ wired 1 Unjoined ∷ []) true
     ∷ table (wired 0 Unjoined ∷ wired 0 Unjoined ∷ []) false
     ∷ table (wired 0 (Joined 16) ∷ []) false
     ∷ table (wired 0 (Joined 16) ∷ wired 16 (Virtual 0 1) ∷ none ∷ wired 1 (Joined 16) ∷ []) true
@@ -256,8 +256,8 @@ examples =
     ∷ table (formatted 0 3) false
     ∷ table (formatted 16 4) false
     -- 10; accepted where the port is present
-    ∷ offers (attached 0 ∷ []) request 0
-    ∷ map (λ e. offers [] e 10) wanting
+    ∷ accepts (attached 0 ∷ []) request
+    ∷ map (λ e. refuses [] e 10) wanting
 
 -- one statement, `examples-hold` in proofs/Examples.antt
 abbrev pub ExamplesHold : Type 0

@@ -8,7 +8,7 @@ use lib.Dec.{eqb, leb}
 use Rattle.rules.specs.Layout.{portCount}
 use Rattle.rules.specs.Effect.{Change, Effect, Nothing, ToPort, Attach, AttachVirtual, Detach, Value, Disconnect, Connect, Empty}
 use Rattle.rules.specs.Facts.{Wiring, Unjoined, Joined, Virtual, Facts, View, Modes, Ports, modeIn, known}
-use Rattle.rules.specs.Told.{latest, answer, settingsOf}
+use Rattle.rules.specs.Latest.{latest, answer, settingsOf}
 
 abbrev pub History : Type 0
 History = List Effect
@@ -18,7 +18,7 @@ pub data Attachment : Type 0 where
   plain : ℕ → Attachment
   pair : ℕ → ℕ → ℕ → Attachment
 
--- a port since its latest attachment: not present, or the attachment and what the port was told after it, the latest first
+-- a port since its latest attachment: not present, or the attachment and the changes that it was told since, the latest first
 pub data Since : Type 0 where
   absent : Since
   since : Attachment → List Change → Since
@@ -28,19 +28,19 @@ abbrev pub hasMember : Attachment → ℕ → Bool
 hasMember (plain device) port = false
 hasMember (pair device a b) port = eqb a port || eqb b port
 
-abbrev pub tell : Change → Since → Since
-tell c absent = absent
-tell c (since a told) = since a (c ∷ told)
+abbrev pub addChange : Change → Since → Since
+addChange c absent = absent
+addChange c (since a changes) = since a (c ∷ changes)
 
 abbrev pub unlessMember : ℕ → Since → Since
 unlessMember port absent = absent
-unlessMember port (since a told) = cond (hasMember a port) absent (since a told)
+unlessMember port (since a changes) = cond (hasMember a port) absent (since a changes)
 
 -- going back from the latest: the port's attachment, an ending, or neither
 unfoldable pub sinceAttached : ℕ → History → Since
 sinceAttached port [] = absent
 sinceAttached port (Nothing ∷ h) = sinceAttached port h
-sinceAttached port (ToPort p c ∷ h) = cond (eqb p port) (tell c (sinceAttached port h)) (sinceAttached port h)
+sinceAttached port (ToPort p c ∷ h) = cond (eqb p port) (addChange c (sinceAttached port h)) (sinceAttached port h)
 sinceAttached port (Attach p device ∷ h) = cond (eqb p port) (since (plain device) []) (sinceAttached port h)
 sinceAttached port (AttachVirtual p device a b ∷ h) = cond (eqb p port) (since (pair device a b) []) (sinceAttached port h)
 sinceAttached port (Detach p ∷ h) = cond (eqb p port) absent (unlessMember p (sinceAttached port h))
@@ -50,13 +50,13 @@ sinceAttached port (Connect a b ∷ h) = sinceAttached port h
 sinceAttached port (Empty ∷ h) = absent
 
 -- the virtual port, among those below a number, that is present and names a port
-abbrev pub names? : ℕ → Since → Bool
-names? port absent = false
-names? port (since a told) = hasMember a port
+abbrev pub isPartner : ℕ → Since → Bool
+isPartner port absent = false
+isPartner port (since a changes) = hasMember a port
 
 abbrev pub partnerBelow : ℕ → History → ℕ → Option ℕ
 partnerBelow zero h port = none
-partnerBelow (suc v) h port = cond (names? port (sinceAttached v h)) (some v) (partnerBelow v h port)
+partnerBelow (suc v) h port = cond (isPartner port (sinceAttached v h)) (some v) (partnerBelow v h port)
 
 abbrev pub joinedBy : Option ℕ → Wiring
 joinedBy none = Unjoined
@@ -72,7 +72,7 @@ deviceOf (pair device a b) = device
 
 abbrev pub factsOf : ℕ → History → Since → Option Facts
 factsOf port h absent = none
-factsOf port h (since a told) = some (record { device = deviceOf a; wiring = wiringOf a h port; settings = settingsOf told })
+factsOf port h (since a changes) = some (record { device = deviceOf a; wiring = wiringOf a h port; settings = settingsOf changes })
 
 unfoldable pub viewOfHistory : History → View
 viewOfHistory h port = factsOf port h (sinceAttached port h)
@@ -80,7 +80,7 @@ viewOfHistory h port = factsOf port h (sinceAttached port h)
 -- the mode is the latest 47's since the attachment
 abbrev pub modeSince : Since → Option ℕ
 modeSince absent = none
-modeSince (since a told) = modeIn (latest answer told)
+modeSince (since a changes) = modeIn (latest answer changes)
 
 unfoldable pub modesOfHistory : History → Modes
 modesOfHistory h port = modeSince (sinceAttached port h)

@@ -8,8 +8,9 @@ use lib.ListN.{replicate}
 use Rattle.protocol.specs.Number.{Bytes}
 use Rattle.rules.specs.Table.{Record, Table, fullTable, insert, remove}
 use Rattle.rules.specs.Layout.{stride}
+use Rattle.rules.specs.Answer.{refused}
 use Rattle.rules.specs.Cells.{placeCells, sound, emptyCells}
-use Rattle.rules.specs.Offer.{Entry, refused, offerCells, cellsAfter}
+use Rattle.rules.specs.Offer.{Entry, offerByCells, cellsAfter}
 
 -- the empty table is sound
 abbrev pub EmptySound : Type 0
@@ -21,7 +22,7 @@ StepKeepsSound = (cells : List ℕ) (e : Entry) → Bytes (e .bytes) → sound c
 
 -- a refused message leaves the table as it was
 abbrev pub RefusedChangesNothing : Type 0
-RefusedChangesNothing = (cells : List ℕ) (e : Entry) (number place : ℕ) → offerCells cells e ≡ refused number place → cellsAfter cells e ≡ cells
+RefusedChangesNothing = (cells : List ℕ) (e : Entry) (number place : ℕ) → offerByCells cells e ≡ refused number place → cellsAfter cells e ≡ cells
 
 -- a freed place equals one in an empty table
 abbrev pub FreedIsEmpty : Type 0

@@ -1,9 +1,11 @@
 pub mod Layout
+pub mod Answer
 pub mod Facts
 pub mod Effect
+pub mod ValueLookup
 pub mod Judge
-pub mod Value
-pub mod Told
+pub mod Dataset
+pub mod Latest
 pub mod History
 pub mod Learn
 pub mod Table

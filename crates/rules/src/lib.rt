@@ -1,4 +1,6 @@
-// The rules of the port table and the reader without a table. Definitions and laws only: no function.
+// The rules of the port table and the reader without a table: the types that definitions and code share, the layout of
+// the table, definitions and laws. No function.
+pub mod layout;
 
 // An input format setup, asked for by a 0x41 or answered by a 0x47.
 pub struct Setup {
@@ -15,7 +17,8 @@ pub struct Format {
     pub decimals: u8,
 }
 
-// A port is physical, and joined to a virtual port or not; or it is virtual, with its two members as they were sent.
+// Document 01's terms: a physical port is unjoined, or joined to the virtual port that is its partner; a virtual port's
+// partners are its two members, as they were sent.
 pub enum Wiring {
     Unjoined,
     Joined { port: u8 },
@@ -73,4 +76,11 @@ pub enum Effect {
     },
     // 0x02 up, 0x30 to 0x32
     Empty,
+}
+
+// What a value of a port is read by: the mode that the hub last answered, the port's state and that mode's format; or why
+// it can't be read: 10, 14 or 15.
+pub enum ValueLookup {
+    Found { mode: u8, state: u8, format: Format },
+    Refused { number: u8 },
 }

@@ -1,4 +1,4 @@
--- The reader without a table: a port's settings, from what it was told since its attachment, the latest first. There are no
+-- The reader without a table: a port's settings, from the changes that it was told since its attachment, the latest first. There are no
 -- ports here, and nothing of the table's.
 use Prim.Native.Nat.{ℕ}
 use mathlib.Core.Bool.{Bool, cond, not, _||_}
@@ -15,7 +15,7 @@ orElse (some a) b = some a
 -- what the latest change says that says anything
 abbrev pub latest : {A : Type 0} → (Change → Option A) → List Change → Option A
 latest pick [] = none
-latest pick (c ∷ told) = orElse (pick c) (latest pick told)
+latest pick (c ∷ changes) = orElse (pick c) (latest pick changes)
 
 -- what one change says: a mode's format, a 47, a 41
 abbrev pub formatFor : ℕ → Change → Option Format
@@ -38,12 +38,12 @@ asking (Asked s) = some s
 
 -- what came after the latest 41
 abbrev pub unlessAsking : Option Setup → List Change → List Change
-unlessAsking none told = told
-unlessAsking (some s) told = []
+unlessAsking none changes = changes
+unlessAsking (some s) changes = []
 
 abbrev pub sinceAsking : List Change → List Change
 sinceAsking [] = []
-sinceAsking (c ∷ told) = unlessAsking (asking c) (c ∷ sinceAsking told)
+sinceAsking (c ∷ changes) = unlessAsking (asking c) (c ∷ sinceAsking changes)
 
 -- mode, delta and notify are compared here by themselves, so that a slip in the table's comparison is no slip here
 abbrev pub differs : Setup → Setup → Bool
@@ -56,9 +56,9 @@ stateBy (some s) none = 1
 stateBy (some s) (some t) = cond (differs s t) 3 2
 
 unfoldable pub settingsOf : List Change → Settings
-settingsOf told = record {
-  formats = λ mode. latest (formatFor mode) told;
-  answered = latest answer told;
-  asked = latest asking told;
-  state = stateBy (latest asking told) (latest answer (sinceAsking told));
+settingsOf changes = record {
+  formats = λ mode. latest (formatFor mode) changes;
+  answered = latest answer changes;
+  asked = latest asking changes;
+  state = stateBy (latest asking changes) (latest answer (sinceAsking changes));
 }
