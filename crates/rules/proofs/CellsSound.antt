@@ -68,7 +68,7 @@ sound-is cells e =
 
 -- ---- how many cells
 
-cells-length : (t : Table) → length (cellsOf t) ≡ stride * length t
+pub cells-length : (t : Table) → length (cellsOf t) ≡ stride * length t
 unfolding cellsOf
 cells-length [] = refl
 cells-length (p ∷ t) =

@@ -6,13 +6,8 @@ pub mod LogBlocks
 pub mod LogLines
 pub mod Numbers
 pub mod Offers
-pub mod Places
 pub mod Queries
 pub mod Records
-pub mod SoundnessExact
-pub mod SoundnessRecord
-pub mod SoundnessTable
-pub mod SoundnessTests
 pub mod States
 pub mod Steps
 pub mod Stores

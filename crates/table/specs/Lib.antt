@@ -4,7 +4,5 @@ pub mod Lines
 pub mod LogBlock
 pub mod LogLine
 pub mod Outcome
-pub mod Place
 pub mod Query
-pub mod Soundness
 pub mod Step

@@ -1,0 +1,5 @@
+pub mod Places
+pub mod SoundnessExact
+pub mod SoundnessRecord
+pub mod SoundnessTable
+pub mod SoundnessTests

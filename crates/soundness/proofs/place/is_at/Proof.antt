@@ -1,0 +1,53 @@
+use Prim.Native.Nat.{_+_, _*_}
+use mathlib.Core.Path.{sym, ap}
+use mathlib.Core.Bool.{Bool, false, cond}
+use lib.Dec.{eqb}
+use lib.ListN.{getD}
+use borrow.Author.Tests.{eq-eqb, ne-eqb}
+use Rattle.soundness.specs.Place.{portAt}
+use borrow.Author.Needs.{needs}
+use Rattle.soundness.proofs.place.is_at.Statement.{statement}
+use Rattle.soundness.proofs.place.is_at.Tie as tie
+
+mul-if1 : tie.Need-mul-if1
+mul-if1 c = search needs
+
+mul-if1-2 : tie.Need-mul-if1-2
+mul-if1-2 c = search needs
+
+shared-slice-read-if1 : tie.Need-shared-slice-read-if1
+shared-slice-read-if1 c = search needs
+
+returns : tie.Need-returns
+unfolding portAt
+returns c = sym (ap (λ (b : Bool). cond b false (eqb (getD (c .before .before .args .table .now) (28 * c .before .before .args .place + 1) 0) (c .before .before .args .port))) (eq-eqb _ _ (c .if1 .taken)))
+
+mul-result : tie.Need-mul-result
+mul-result c = search needs
+
+add-result : tie.Need-add-result
+add-result c = search needs
+
+mul-result-2 : tie.Need-mul-result-2
+mul-result-2 c = search needs
+
+shared-slice-read-result : tie.Need-shared-slice-read-result
+shared-slice-read-result c = search needs
+
+returns-2 : tie.Need-returns-2
+unfolding portAt
+returns-2 c = rw (ne-eqb _ _ (c .before .if1 .left))
+
+pub is-at-spec : {M : Type 1} → statement M
+is-at-spec =
+    tie.close
+    (tie.spec
+    mul-if1
+    mul-if1-2
+    shared-slice-read-if1
+    returns
+    mul-result
+    add-result
+    mul-result-2
+    shared-slice-read-result
+    returns-2)

@@ -1,0 +1,58 @@
+use mathlib.Core.Path.{sym, _∙_, ap}
+use lib.ListN.{getD}
+use Rattle.rules.specs.WellFormed.{wiringFits}
+use Rattle.soundness.proofs.SoundnessRecord.{is-unjoined, is-joined, is-virtual}
+use Rattle.rules.specs.Table.{viewOfTable}
+use Rattle.rules.specs.Cells.{tableAt}
+use borrow.Author.Needs.{needs}
+use Rattle.soundness.proofs.soundness.wiring_fits.Statement.{statement}
+use Rattle.soundness.proofs.soundness.wiring_fits.Tie as tie
+
+shared-slice-read-match : tie.Need-shared-slice-read-match
+shared-slice-read-match c = search needs
+
+shared-slice-read-joined-fits : tie.Need-shared-slice-read-joined-fits
+shared-slice-read-joined-fits c = search needs
+
+shared-slice-read-joined-fits-2 : tie.Need-shared-slice-read-joined-fits-2
+shared-slice-read-joined-fits-2 c = search needs
+
+joined-fits-requires : tie.Need-joined-fits-requires
+joined-fits-requires c κs = search needs
+
+shared-slice-read-virtual-fits : tie.Need-shared-slice-read-virtual-fits
+shared-slice-read-virtual-fits c = search needs
+
+shared-slice-read-virtual-fits-2 : tie.Need-shared-slice-read-virtual-fits-2
+shared-slice-read-virtual-fits-2 c = search needs
+
+shared-slice-read-virtual-fits-3 : tie.Need-shared-slice-read-virtual-fits-3
+shared-slice-read-virtual-fits-3 c = search needs
+
+virtual-fits-requires : tie.Need-virtual-fits-requires
+virtual-fits-requires c κs = search needs
+
+returns : tie.Need-returns
+returns c = sym (ap (wiringFits (viewOfTable (tableAt (c .before .before .before .before .args .table .now))) (getD (c .before .before .before .before .args .place .now) 1 0)) (is-unjoined (c .before .before .before .before .args .place .now) (c .match .keys1)))
+
+returns-2 : tie.Need-returns-2
+returns-2 c = c .joined-fits .ensures ∙ sym (ap (wiringFits (viewOfTable (tableAt (c .before .before .before .before .before .before .before .args .table .now))) (getD (c .before .before .before .before .before .before .before .args .place .now) 1 0)) (is-joined (c .before .before .before .before .before .before .before .args .place .now) (c .before .before .before .match .keys2)))
+
+returns-3 : tie.Need-returns-3
+returns-3 c = c .virtual-fits .ensures ∙ sym (ap (wiringFits (viewOfTable (tableAt (c .before .before .before .before .before .before .before .before .args .table .now))) (getD (c .before .before .before .before .before .before .before .before .args .place .now) 1 0)) (is-virtual (c .before .before .before .before .before .before .before .before .args .place .now) (c .before .before .before .before .match .rest .0 .1) (c .before .before .before .before .match .rest .1)))
+
+pub wiring-fits-spec : {M : Type 1} → statement M
+wiring-fits-spec =
+    tie.close
+    (tie.spec
+    shared-slice-read-match
+    shared-slice-read-joined-fits
+    shared-slice-read-joined-fits-2
+    joined-fits-requires
+    shared-slice-read-virtual-fits
+    shared-slice-read-virtual-fits-2
+    shared-slice-read-virtual-fits-3
+    virtual-fits-requires
+    returns
+    returns-2
+    returns-3)
