@@ -15,42 +15,43 @@ use Rattle.protocol.proofs.Floats.{not-nan}
 use Rattle.protocol.proofs.Tests.{which, and-left}
 use Rattle.rules.specs.declared.Format.{Format}
 use Rattle.rules.specs.Judge.{widthOf}
-use Rattle.rules.specs.Value.{Handed, whole, float, datasetOf, handFloat}
-use Rattle.rules.specs.Value as Value
+use Rattle.rules.specs.Answer as Answer
+use Rattle.rules.specs.Answer.{Answer}
+use Rattle.rules.specs.Dataset.{Dataset, Number, whole, float, stamped, floatDataset, datasetOf}
 use Rattle.log.specs.Dataset.{numberAt, numbersAt, finiteFrom}
 use Rattle.log.specs.Line.{refused, values, withNumber, followedBy, numbersFrom, withNumbers, valueLine}
 
 module _ (port mode state : ℕ) (f : Format) (bytes : List ℕ) where
-  abbrev hands : ℕ → Handed
-  hands = datasetOf port mode state f bytes
+  abbrev dataset : ℕ → Answer Dataset
+  dataset = datasetOf port mode state f bytes
 
-  past-all : (k : ℕ) → f .datasets ≤ k → hands k ≡ Value.refused 17 0
+  past-all : (k : ℕ) → f .datasets ≤ k → dataset k ≡ Answer.refused 17 0
   unfolding datasetOf
   past-all k h = rw (le-ltb k (f .datasets) h)
 
   -- ---- whole numbers
 
   module _ (other : eqb (f .kind) 3 ≡ false) where
-    one-whole : (k : ℕ) → k < f .datasets → hands k ≡ whole port mode state (numberAt (widthOf (f .kind)) bytes k)
+    one-whole : (k : ℕ) → k < f .datasets → dataset k ≡ stamped port mode state (whole (numberAt (widthOf (f .kind)) bytes k))
     unfolding datasetOf
     one-whole k h = rw (lt-ltb k (f .datasets) h, other)
 
-    wholes : (most k n : ℕ) → n ≤ most → k + n ≡ f .datasets → numbersFrom most hands k ≡ some (numbersAt (widthOf (f .kind)) bytes k n)
+    wholes : (most k n : ℕ) → n ≤ most → k + n ≡ f .datasets → numbersFrom most dataset k ≡ some (numbersAt (widthOf (f .kind)) bytes k n)
     wholes zero k zero h e = refl
-    wholes (suc most) k zero h e = ap (λ (x : Handed). followedBy x (numbersFrom most hands (suc k))) (past-all k (omega arith))
+    wholes (suc most) k zero h e = ap (λ (x : Answer Dataset). followedBy x (numbersFrom most dataset (suc k))) (past-all k (omega arith))
     wholes zero k (suc n) h e = absurd (omega arith)
     wholes (suc most) k (suc n) h e =
-        ap (λ (x : Handed). followedBy x (numbersFrom most hands (suc k))) (one-whole k (omega arith))
+        ap (λ (x : Answer Dataset). followedBy x (numbersFrom most dataset (suc k))) (one-whole k (omega arith))
         ∙ ap (withNumber (numberAt (widthOf (f .kind)) bytes k)) (wholes most (suc k) n (omega arith) (omega arith))
 
-    pub whole-line : 1 ≤ f .datasets → f .datasets ≤ 16 → valueLine hands ≡ values port mode state (numbersAt (widthOf (f .kind)) bytes 0 (f .datasets))
+    pub whole-line : 1 ≤ f .datasets → f .datasets ≤ 16 → valueLine dataset ≡ values port mode state (numbersAt (widthOf (f .kind)) bytes 0 (f .datasets))
     unfolding valueLine
     whole-line some-there few = λ i. withNumbers (one-whole 0 some-there i) (wholes 16 0 (f .datasets) few (omega arith) i)
 
   -- ---- floats
 
   module _ (is-float : eqb (f .kind) 3 ≡ true) (small : (k : ℕ) → k < f .datasets → numberAt 4 bytes k < 4294967296) where
-    one-float : (k : ℕ) → k < f .datasets → hands k ≡ handFloat port mode state (ofBits binary32 (numberAt 4 bytes k))
+    one-float : (k : ℕ) → k < f .datasets → dataset k ≡ floatDataset port mode state (ofBits binary32 (numberAt 4 bytes k))
     unfolding datasetOf
     one-float k h = rw (lt-ltb k (f .datasets) h, is-float)
 
@@ -58,11 +59,11 @@ module _ (port mode state : ℕ) (f : Format) (bytes : List ℕ) where
     bits-back k h e = toBits-ofBits binary32 (numberAt 4 bytes k) (omega (arith, small k h)) (not-nan (ofBits binary32 (numberAt 4 bytes k)) e)
 
     -- a float that is finite, and one that is not
-    finite-one : (k : ℕ) → k < f .datasets → isFinite (ofBits binary32 (numberAt 4 bytes k)) ≡ true → hands k ≡ float port mode state (ofBits binary32 (numberAt 4 bytes k))
-    finite-one k h e = one-float k h ∙ ap (λ (b : Bool). cond b (float port mode state (ofBits binary32 (numberAt 4 bytes k))) (Value.refused 18 0)) e
+    finite-one : (k : ℕ) → k < f .datasets → isFinite (ofBits binary32 (numberAt 4 bytes k)) ≡ true → dataset k ≡ stamped port mode state (float (ofBits binary32 (numberAt 4 bytes k)))
+    finite-one k h e = rw (one-float k h, e)
 
-    other-one : (k : ℕ) → k < f .datasets → isFinite (ofBits binary32 (numberAt 4 bytes k)) ≡ false → hands k ≡ Value.refused 18 0
-    other-one k h e = one-float k h ∙ ap (λ (b : Bool). cond b (float port mode state (ofBits binary32 (numberAt 4 bytes k))) (Value.refused 18 0)) e
+    other-one : (k : ℕ) → k < f .datasets → isFinite (ofBits binary32 (numberAt 4 bytes k)) ≡ false → dataset k ≡ Answer.refused 18 0
+    other-one k h e = rw (one-float k h, e)
 
     abbrev gathered : ℕ → ℕ → Option (List ℕ)
     gathered k n = cond (finiteFrom bytes k n) (some (numbersAt 4 bytes k n)) none
@@ -71,19 +72,19 @@ module _ (port mode state : ℕ) (f : Format) (bytes : List ℕ) where
     joined true n ns = refl
     joined false n ns = refl
 
-    floats : (most k n : ℕ) → n ≤ most → k + n ≡ f .datasets → numbersFrom most hands k ≡ gathered k n
+    floats : (most k n : ℕ) → n ≤ most → k + n ≡ f .datasets → numbersFrom most dataset k ≡ gathered k n
     floats zero k zero h e = refl
-    floats (suc most) k zero h e = ap (λ (x : Handed). followedBy x (numbersFrom most hands (suc k))) (past-all k (omega arith))
+    floats (suc most) k zero h e = ap (λ (x : Answer Dataset). followedBy x (numbersFrom most dataset (suc k))) (past-all k (omega arith))
     floats zero k (suc n) h e = absurd (omega arith)
     floats (suc most) k (suc n) h e =
         ⊎-elim
         (λ (x : isFinite (ofBits binary32 (numberAt 4 bytes k)) ≡ true).
-        ap (λ (y : Handed). followedBy y (numbersFrom most hands (suc k))) (finite-one k (omega arith) x)
+        ap (λ (y : Answer Dataset). followedBy y (numbersFrom most dataset (suc k))) (finite-one k (omega arith) x)
         ∙ (λ i. withNumber (bits-back k (omega arith) x i) (floats most (suc k) n (omega arith) (omega arith) i))
         ∙ joined (finiteFrom bytes (suc k) n) (numberAt 4 bytes k) (numbersAt 4 bytes (suc k) n)
         ∙ sym (ap (λ (b : Bool). cond (b && finiteFrom bytes (suc k) n) (some (numbersAt 4 bytes k (suc n))) none) x))
         (λ (x : isFinite (ofBits binary32 (numberAt 4 bytes k)) ≡ false).
-        ap (λ (y : Handed). followedBy y (numbersFrom most hands (suc k))) (other-one k (omega arith) x)
+        ap (λ (y : Answer Dataset). followedBy y (numbersFrom most dataset (suc k))) (other-one k (omega arith) x)
         ∙ sym (ap (λ (b : Bool). cond (b && finiteFrom bytes (suc k) n) (some (numbersAt 4 bytes k (suc n))) none) x))
         (which (isFinite (ofBits binary32 (numberAt 4 bytes k))))
 
@@ -91,15 +92,15 @@ module _ (port mode state : ℕ) (f : Format) (bytes : List ℕ) where
     first-finite : (n : ℕ) → finiteFrom bytes 0 (suc n) ≡ true → isFinite (ofBits binary32 (numberAt 4 bytes 0)) ≡ true
     first-finite n e = and-left (isFinite (ofBits binary32 (numberAt 4 bytes 0))) (finiteFrom bytes 1 n) e
 
-    pub float-line : 1 ≤ f .datasets → f .datasets ≤ 16 → finiteFrom bytes 0 (f .datasets) ≡ true → valueLine hands ≡ values port mode state (numbersAt 4 bytes 0 (f .datasets))
+    pub float-line : 1 ≤ f .datasets → f .datasets ≤ 16 → finiteFrom bytes 0 (f .datasets) ≡ true → valueLine dataset ≡ values port mode state (numbersAt 4 bytes 0 (f .datasets))
     unfolding valueLine
     float-line some-there few e =
         let n : ℕ = f .datasets - 1 in
         let count : f .datasets ≡ suc n = omega arith in
-        let first : hands 0 ≡ float port mode state (ofBits binary32 (numberAt 4 bytes 0)) = finite-one 0 some-there (first-finite n (sym (ap (finiteFrom bytes 0) count) ∙ e)) in
-        let all : numbersFrom 16 hands 0 ≡ some (numbersAt 4 bytes 0 (f .datasets)) = floats 16 0 (f .datasets) few (omega arith) ∙ ap (λ (b : Bool). cond b (some (numbersAt 4 bytes 0 (f .datasets))) none) e in
+        let first : dataset 0 ≡ stamped port mode state (float (ofBits binary32 (numberAt 4 bytes 0))) = finite-one 0 some-there (first-finite n (sym (ap (finiteFrom bytes 0) count) ∙ e)) in
+        let all : numbersFrom 16 dataset 0 ≡ some (numbersAt 4 bytes 0 (f .datasets)) = floats 16 0 (f .datasets) few (omega arith) ∙ ap (λ (b : Bool). cond b (some (numbersAt 4 bytes 0 (f .datasets))) none) e in
         λ i. withNumbers (first i) (all i)
 
-    pub line-18 : f .datasets ≤ 16 → finiteFrom bytes 0 (f .datasets) ≡ false → valueLine hands ≡ refused 18
+    pub line-18 : f .datasets ≤ 16 → finiteFrom bytes 0 (f .datasets) ≡ false → valueLine dataset ≡ refused 18
     unfolding valueLine
-    line-18 few e = ap (withNumbers (hands 0)) (floats 16 0 (f .datasets) few (omega arith) ∙ ap (λ (b : Bool). cond b (some (numbersAt 4 bytes 0 (f .datasets))) none) e)
+    line-18 few e = ap (withNumbers (dataset 0)) (floats 16 0 (f .datasets) few (omega arith) ∙ ap (λ (b : Bool). cond b (some (numbersAt 4 bytes 0 (f .datasets))) none) e)

@@ -8,7 +8,7 @@ use lib.ListN.{length, take, drop, length-append, length-drop}
 use lib.Seq.{take-append-le, drop-append-le, drop-drop}
 use Rattle.log.specs.Decimal.{lineText}
 use Rattle.log.specs.Record.{recordSize}
-use Rattle.log.specs.Line.{Line, recordLine, recordCells, numbersOf}
+use Rattle.log.specs.Line.{Line, recordLine, cellsAfterRecord, numbersOf}
 use Rattle.log.specs.Output.{linesOf, cellsThrough, records, lastLine, numbered, refusedAmong}
 
 -- all lines of an input, from cells on
@@ -20,7 +20,7 @@ linesFrom part cells s = linesOf part (records part s) cells s ++ lastLine (drop
 -- a line for each record
 pub length-lines : (part n : ℕ) (cells s : List ℕ) → length (linesOf part n cells s) ≡ n
 length-lines part zero cells s = refl
-length-lines part (suc n) cells s = ap suc (length-lines part n (recordCells part cells (take (recordSize part) s)) (drop (recordSize part) s))
+length-lines part (suc n) cells s = ap suc (length-lines part n (cellsAfterRecord part cells (take (recordSize part) s)) (drop (recordSize part) s))
 
 pub refused-append : (ls ms : List Line) → refusedAmong (ls ++ ms) ≡ refusedAmong ls + refusedAmong ms
 refused-append [] ms = sym (zero-add (refusedAmong ms))
@@ -47,7 +47,7 @@ one-more part s t h =
 
 -- its line, and then the lines of what is after it
 record-first : (part : ℕ) (cells s t : List ℕ) → recordSize part ≤ length s
-    → linesFrom part cells (s ++ t) ≡ recordLine part cells (take (recordSize part) s) ∷ linesFrom part (recordCells part cells (take (recordSize part) s)) (drop (recordSize part) s ++ t)
+    → linesFrom part cells (s ++ t) ≡ recordLine part cells (take (recordSize part) s) ∷ linesFrom part (cellsAfterRecord part cells (take (recordSize part) s)) (drop (recordSize part) s ++ t)
 record-first part cells s t h =
     let size : ℕ = recordSize part in
     let n : ℕ = records part (drop size s ++ t) in
@@ -55,8 +55,8 @@ record-first part cells s t h =
     ap (λ (m : ℕ). linesOf part m cells (s ++ t) ++ lastLine (drop (m * size) (s ++ t))) (one-more part s t h)
     ∙ ap (λ (x : List ℕ). linesOf part (suc n) cells (s ++ t) ++ lastLine x)
     (ap (λ (m : ℕ). drop m (s ++ t)) sum ∙ sym (drop-drop (n * size) size (s ++ t)))
-    ∙ ap (λ (x : List ℕ). recordLine part cells x ∷ (linesOf part n (recordCells part cells x) (drop size (s ++ t)) ++ lastLine (drop (n * size) (drop size (s ++ t))))) (take-append-le size s t h)
-    ∙ ap (λ (x : List ℕ). recordLine part cells (take size s) ∷ (linesOf part n (recordCells part cells (take size s)) x ++ lastLine (drop (n * size) x))) (drop-append-le size s t h)
+    ∙ ap (λ (x : List ℕ). recordLine part cells x ∷ (linesOf part n (cellsAfterRecord part cells x) (drop size (s ++ t)) ++ lastLine (drop (n * size) (drop size (s ++ t))))) (take-append-le size s t h)
+    ∙ ap (λ (x : List ℕ). recordLine part cells (take size s) ∷ (linesOf part n (cellsAfterRecord part cells (take size s)) x ++ lastLine (drop (n * size) x))) (drop-append-le size s t h)
 
 -- so many records of the input that is there, whatever comes after it
 pub records-first : (part n : ℕ) (cells s t : List ℕ) → n * recordSize part ≤ length s
@@ -68,7 +68,7 @@ records-first part (suc n) cells s t h =
     let sum : suc n * size ≡ n * size + size = suc-mul n size in
     let cut : length (drop size s) ≡ length s - size = length-drop size s in
     record-first part cells s t (omega arith)
-    ∙ ap (λ (ls : List Line). recordLine part cells x ∷ ls) (records-first part n (recordCells part cells x) (drop size s) t (omega arith))
+    ∙ ap (λ (ls : List Line). recordLine part cells x ∷ ls) (records-first part n (cellsAfterRecord part cells x) (drop size s) t (omega arith))
     ∙ ap (λ (y : List ℕ). linesOf part (suc n) cells s ++ linesFrom part (cellsThrough part (suc n) cells s) (y ++ t))
     (drop-drop (n * size) size s ∙ ap (λ (m : ℕ). drop m s) (add-comm size (n * size) ∙ sym sum))
 

@@ -10,7 +10,7 @@ use lib.ListN.{length, take, drop}
 use lib.Seq.{drop-drop}
 use Rattle.log.specs.Decimal.{lineText}
 use Rattle.log.specs.Record.{recordSize}
-use Rattle.log.specs.Line.{Line, recordLine, recordCells, refusalOf, numbersOf}
+use Rattle.log.specs.Line.{Line, recordLine, cellsAfterRecord, refusalOf, numbersOf}
 use Rattle.log.specs.Output.{linesOf, cellsThrough, numbered, refusedAmong}
 use Rattle.log.specs.Cutting.{Run, worked, printed}
 use Rattle.log.specs.Block.{goesOn, recordsIn}
@@ -26,14 +26,14 @@ module _ (part : ℕ) where
   lines-more zero cells s = ap (λ (x : List ℕ). linesOf part 1 cells x) (ap (λ (k : ℕ). drop k s) (sym (zero-mul (recordSize part))))
   lines-more (suc n) cells s =
       let first : List ℕ = take (recordSize part) s in
-      ap (λ (ls : List Line). recordLine part cells first ∷ ls) (lines-more n (recordCells part cells first) (drop (recordSize part) s))
-      ∙ ap (λ (x : List ℕ). recordLine part cells first ∷ (linesOf part n (recordCells part cells first) (drop (recordSize part) s) ++ linesOf part 1 (cellsThrough part n (recordCells part cells first) (drop (recordSize part) s)) x)) (past n s)
+      ap (λ (ls : List Line). recordLine part cells first ∷ ls) (lines-more n (cellsAfterRecord part cells first) (drop (recordSize part) s))
+      ∙ ap (λ (x : List ℕ). recordLine part cells first ∷ (linesOf part n (cellsAfterRecord part cells first) (drop (recordSize part) s) ++ linesOf part 1 (cellsThrough part n (cellsAfterRecord part cells first) (drop (recordSize part) s)) x)) (past n s)
 
-  cells-more : (n : ℕ) (cells s : List ℕ) → cellsThrough part (suc n) cells s ≡ recordCells part (cellsThrough part n cells s) (take (recordSize part) (drop (n * recordSize part) s))
-  cells-more zero cells s = ap (λ (x : List ℕ). recordCells part cells (take (recordSize part) x)) (ap (λ (k : ℕ). drop k s) (sym (zero-mul (recordSize part))))
+  cells-more : (n : ℕ) (cells s : List ℕ) → cellsThrough part (suc n) cells s ≡ cellsAfterRecord part (cellsThrough part n cells s) (take (recordSize part) (drop (n * recordSize part) s))
+  cells-more zero cells s = ap (λ (x : List ℕ). cellsAfterRecord part cells (take (recordSize part) x)) (ap (λ (k : ℕ). drop k s) (sym (zero-mul (recordSize part))))
   cells-more (suc n) cells s =
-      cells-more n (recordCells part cells (take (recordSize part) s)) (drop (recordSize part) s)
-      ∙ ap (λ (x : List ℕ). recordCells part (cellsThrough part n (recordCells part cells (take (recordSize part) s)) (drop (recordSize part) s)) (take (recordSize part) x)) (past n s)
+      cells-more n (cellsAfterRecord part cells (take (recordSize part) s)) (drop (recordSize part) s)
+      ∙ ap (λ (x : List ℕ). cellsAfterRecord part (cellsThrough part n (cellsAfterRecord part cells (take (recordSize part) s)) (drop (recordSize part) s)) (take (recordSize part) x)) (past n s)
 
   module _ (r : Run) (n : ℕ) where
     -- the record that comes next, and its line
@@ -43,7 +43,7 @@ module _ (part : ℕ) where
     abbrev pub nextLine : Line
     nextLine = recordLine part (worked part n r .cells) nextRecord
 
-    pub cells-next : worked part (suc n) r .cells ≡ recordCells part (worked part n r .cells) nextRecord
+    pub cells-next : worked part (suc n) r .cells ≡ cellsAfterRecord part (worked part n r .cells) nextRecord
     cells-next = cells-more n (r .cells) (r .rest)
 
     pub lines-next : worked part (suc n) r .lines ≡ worked part n r .lines + 1

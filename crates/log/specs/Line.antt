@@ -7,10 +7,10 @@ use lib.Dec.{eqb}
 use lib.Ieee.{binary32, toBits}
 use Rattle.rules.specs.declared.Effect.{Effect}
 use Rattle.rules.specs.declared.Effect.the-variants as Effect'
-use Rattle.rules.specs.Value.{Handed, whole, float}
-use Rattle.rules.specs.Value as Value
-use Rattle.rules.specs.Offer.{Entry, Verdict, accepts, offerCells, cellsAfter, handCells}
-use Rattle.rules.specs.Offer as Offer
+use Rattle.rules.specs.Answer as Answer
+use Rattle.rules.specs.Answer.{Answer}
+use Rattle.rules.specs.Dataset.{Dataset, Number, whole, float}
+use Rattle.rules.specs.Offer.{Entry, offerByCells, cellsAfter, datasetByCells}
 use Rattle.log.specs.Record.{entryOf, malformed}
 
 pub data Line : Type 0 where
@@ -21,58 +21,61 @@ pub data Line : Type 0 where
 
 -- ---- the datasets of a value, as they are handed out one after another
 
+-- a float as its 32 bits
+abbrev pub bitsOf : Number → ℕ
+bitsOf (whole n) = n
+bitsOf (float x) = toBits binary32 x
+
 abbrev pub withNumber : ℕ → Option (List ℕ) → Option (List ℕ)
 withNumber n none = none
 withNumber n (some ns) = some (n ∷ ns)
 
 -- 17 ends them; none where one is refused before
-abbrev pub followedBy : Handed → Option (List ℕ) → Option (List ℕ)
-followedBy (Value.refused n place) rest = cond (eqb n 17) (some []) none
-followedBy (whole port mode state v) rest = withNumber v rest
-followedBy (float port mode state x) rest = withNumber (toBits binary32 x) rest
+abbrev pub followedBy : Answer Dataset → Option (List ℕ) → Option (List ℕ)
+followedBy (Answer.refused n place) rest = cond (eqb n 17) (some []) none
+followedBy (Answer.accepted d) rest = withNumber (bitsOf (d .value)) rest
 
 -- at most so many, from a number on
-abbrev pub numbersFrom : ℕ → (ℕ → Handed) → ℕ → Option (List ℕ)
-numbersFrom zero hand n = some []
-numbersFrom (suc most) hand n = followedBy (hand n) (numbersFrom most hand (suc n))
+abbrev pub numbersFrom : ℕ → (ℕ → Answer Dataset) → ℕ → Option (List ℕ)
+numbersFrom zero dataset n = some []
+numbersFrom (suc most) dataset n = followedBy (dataset n) (numbersFrom most dataset (suc n))
 
 -- 18: a dataset is an infinity or a NaN
-abbrev pub withNumbers : Handed → Option (List ℕ) → Line
-withNumbers h none = refused 18
-withNumbers (Value.refused n place) (some ns) = refused n
-withNumbers (whole port mode state v) (some ns) = values port mode state ns
-withNumbers (float port mode state x) (some ns) = values port mode state ns
+abbrev pub withNumbers : Answer Dataset → Option (List ℕ) → Line
+withNumbers a none = refused 18
+withNumbers (Answer.refused n place) (some ns) = refused n
+withNumbers (Answer.accepted d) (some ns) = values (d .port) (d .mode) (d .state) ns
 
 -- a format has at most sixteen datasets
-unfoldable pub valueLine : (ℕ → Handed) → Line
-valueLine hand = withNumbers (hand 0) (numbersFrom 16 hand 0)
+unfoldable pub valueLine : (ℕ → Answer Dataset) → Line
+valueLine dataset = withNumbers (dataset 0) (numbersFrom 16 dataset 0)
 
 -- ---- the line of a record
 
-abbrev pub acceptedLine : (ℕ → Handed) → Effect → Line
-acceptedLine hand Effect'.Nothing = accepted
-acceptedLine hand (Effect'.ToPort port c) = accepted
-acceptedLine hand (Effect'.Attach port device) = accepted
-acceptedLine hand (Effect'.AttachVirtual port device a b) = accepted
-acceptedLine hand (Effect'.Detach port) = accepted
-acceptedLine hand (Effect'.Value port) = valueLine hand
-acceptedLine hand (Effect'.Disconnect port) = accepted
-acceptedLine hand (Effect'.Connect a b) = accepted
-acceptedLine hand Effect'.Empty = accepted
+abbrev pub acceptedLine : (ℕ → Answer Dataset) → Effect → Line
+acceptedLine dataset Effect'.Nothing = accepted
+acceptedLine dataset (Effect'.ToPort port c) = accepted
+acceptedLine dataset (Effect'.Attach port device) = accepted
+acceptedLine dataset (Effect'.AttachVirtual port device a b) = accepted
+acceptedLine dataset (Effect'.Detach port) = accepted
+acceptedLine dataset (Effect'.Value port) = valueLine dataset
+acceptedLine dataset (Effect'.Disconnect port) = accepted
+acceptedLine dataset (Effect'.Connect a b) = accepted
+acceptedLine dataset Effect'.Empty = accepted
 
-abbrev pub verdictLine : (ℕ → Handed) → Verdict → Line
-verdictLine hand (Offer.refused n place) = refused n
-verdictLine hand (accepts e) = acceptedLine hand e
+abbrev pub answerLine : (ℕ → Answer Dataset) → Answer Effect → Line
+answerLine dataset (Answer.refused n place) = refused n
+answerLine dataset (Answer.accepted e) = acceptedLine dataset e
 
 abbrev pub entryLine : List ℕ → Entry → Line
-entryLine cells e = verdictLine (handCells cells e) (offerCells cells e)
+entryLine cells e = answerLine (datasetByCells cells e) (offerByCells cells e)
 
 -- 19 comes first, and such a record is not offered to the table
 unfoldable pub recordLine : ℕ → List ℕ → List ℕ → Line
 recordLine part cells s = cond (malformed part s) (refused 19) (entryLine cells (entryOf part s))
 
-unfoldable pub recordCells : ℕ → List ℕ → List ℕ → List ℕ
-recordCells part cells s = cond (malformed part s) cells (cellsAfter cells (entryOf part s))
+unfoldable pub cellsAfterRecord : ℕ → List ℕ → List ℕ → List ℕ
+cellsAfterRecord part cells s = cond (malformed part s) cells (cellsAfter cells (entryOf part s))
 
 -- ---- its refusal, and what stands after its number
 

@@ -7,16 +7,16 @@ use lib.ListN.{length, take, drop}
 use Rattle.rules.specs.Cells.{emptyCells}
 use Rattle.log.specs.Decimal.{decimal, newline, lineText}
 use Rattle.log.specs.Record.{recordSize}
-use Rattle.log.specs.Line.{Line, refused, recordLine, recordCells, refusalOf, numbersOf}
+use Rattle.log.specs.Line.{Line, refused, recordLine, cellsAfterRecord, refusalOf, numbersOf}
 
 -- the lines of the first so many records, and the cells of the table after them
 abbrev pub linesOf : ℕ → ℕ → List ℕ → List ℕ → List Line
 linesOf part zero cells s = []
-linesOf part (suc n) cells s = recordLine part cells (take (recordSize part) s) ∷ linesOf part n (recordCells part cells (take (recordSize part) s)) (drop (recordSize part) s)
+linesOf part (suc n) cells s = recordLine part cells (take (recordSize part) s) ∷ linesOf part n (cellsAfterRecord part cells (take (recordSize part) s)) (drop (recordSize part) s)
 
 abbrev pub cellsThrough : ℕ → ℕ → List ℕ → List ℕ → List ℕ
 cellsThrough part zero cells s = cells
-cellsThrough part (suc n) cells s = cellsThrough part n (recordCells part cells (take (recordSize part) s)) (drop (recordSize part) s)
+cellsThrough part (suc n) cells s = cellsThrough part n (cellsAfterRecord part cells (take (recordSize part) s)) (drop (recordSize part) s)
 
 -- how many whole records
 abbrev pub records : ℕ → List ℕ → ℕ

@@ -9,8 +9,10 @@ ghost use Rattle.log.specs.Record.{allZero, messageSize, messageIn, malf
 // Bytes before the message part.
 const FRONT: usize = 8;
 
-// Bytes of the message part.
+// Bytes of the message part, and of a record.
 const PART: usize = 128;
+
+pub const RECORD_SIZE: usize = 136;
 
 // Whether all bytes are 0.
 fn all_zero(s: &[u8]) -> bool
@@ -55,7 +57,7 @@ pub fn message_in(s: &[u8]) -> &[u8]
 pub fn is_malformed(s: &[u8]) -> bool
     ensures { λ r. ⌜ r ≡ malformed 128 (now (s .entry)) ⌝ }
 {
-    if s.len() != FRONT + PART {
+    if s.len() != RECORD_SIZE {
         return true;
     }
     if 1 < s[4] {
@@ -64,7 +66,7 @@ pub fn is_malformed(s: &[u8]) -> bool
     if !all_zero(&s[5..FRONT]) {
         return true;
     }
-    !all_zero(&s[FRONT + message_size(s)..FRONT + PART])
+    !all_zero(&s[FRONT + message_size(s)..RECORD_SIZE])
 }
 
 // The direction of a record; 0 stands in for a missing byte.

@@ -16,7 +16,7 @@ use Rattle.rules.specs.Layout.{modeCount, stride}
 use Rattle.rules.specs.Facts.{Setup, Format, Wiring, Unjoined, Joined, Virtual, Settings, Facts}
 use Rattle.rules.specs.Table.{Record}
 use Rattle.rules.specs.WellFormed.{formatFits, formatsFit, settingsFit, factsFit}
-use Rattle.rules.specs.Cells.{formatCell, setupCells, wiringCell, firstPartner, secondPartner, formatCells, modes, recordCells, placeCells, formatAt, wiringAt, recordAt, placeAt}
+use Rattle.rules.specs.Cells.{formatCell, setupCells, wiringCell, firstPartner, secondPartner, formatCells, modes, recordCells, placeCells, formatBytes, formatAt, wiringAt, recordAt, placeAt}
 use Rattle.rules.proofs.SettingsFit.{NoHigh, listed}
 
 -- five tests passed: each did
@@ -30,7 +30,7 @@ five-passed a b c d e h =
 -- ---- formats
 
 -- a cell that is not zero stands for its four bytes
-bytes-at : (n : ℕ) → 1 ≤ n → formatAt n ≡ some (record { datasets = n % 256; kind = n / 256 % 256; figures = n / 256 / 256 % 256; decimals = n / 256 / 256 / 256 })
+bytes-at : (n : ℕ) → 1 ≤ n → formatAt n ≡ some (formatBytes n)
 bytes-at zero h = absurd (omega arith)
 bytes-at (suc n) h = refl
 

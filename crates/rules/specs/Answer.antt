@@ -16,3 +16,8 @@ unlessRefused n a = cond (eqb n 0) a (refused n 0)
 abbrev pub outcome : {A : Type 0} → Answer A → Answer (Unit {0})
 outcome (refused n place) = refused n place
 outcome (accepted a) = accepted tt
+
+-- the refusal's number, 0 where the call was accepted
+abbrev pub numberOf : {A : Type 0} → Answer A → ℕ
+numberOf (refused n place) = n
+numberOf (accepted a) = 0

@@ -59,9 +59,12 @@ cellsOf [] = []
 cellsOf (p ∷ t) = placeCells p ++ cellsOf t
 
 -- the record that cells stand for
+abbrev pub formatBytes : ℕ → Format
+formatBytes n = record { datasets = n % 256; kind = n / 256 % 256; figures = n / 256 / 256 % 256; decimals = n / 256 / 256 / 256 }
+
 abbrev pub formatAt : ℕ → Option Format
 formatAt zero = none
-formatAt (suc n) = some (record { datasets = suc n % 256; kind = suc n / 256 % 256; figures = suc n / 256 / 256 % 256; decimals = suc n / 256 / 256 / 256 })
+formatAt (suc n) = some (formatBytes (suc n))
 
 abbrev pub setupAt : ℕ → ℕ → ℕ → Option Setup
 setupAt zero delta notify = none

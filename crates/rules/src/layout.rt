@@ -3,21 +3,29 @@
 
 // Ports and modes are below these.
 pub const PORT_COUNT: u32 = 256;
+
 pub const MODE_COUNT: usize = 16;
 
 // Records of a table, cells of a record's place, cells of a table.
 pub const PLACES: usize = 16;
+
 pub const STRIDE: usize = 28;
+
 pub const TABLE_SIZE: usize = 448;
 
 // 0 free, 1 physical and unjoined, 2 physical and joined, 3 virtual.
 pub const WIRING: usize = 0;
+
 pub const FREE: u32 = 0;
+
 pub const UNJOINED: u32 = 1;
+
 pub const JOINED: u32 = 2;
+
 pub const VIRTUAL: u32 = 3;
 
 pub const PORT: usize = 1;
+
 pub const DEVICE: usize = 2;
 
 // A joined port's virtual port, or a virtual port's first member.
@@ -30,6 +38,7 @@ pub const STATE: usize = 5;
 
 // The first of three each: the mode plus one (0: none), the delta, the notify.
 pub const ASKED: usize = 6;
+
 pub const ANSWERED: usize = 9;
 
 // The first of MODE_COUNT, by mode: 0 none, else the format's four bytes, the first the least significant.

@@ -1,20 +1,14 @@
--- Judging a message that reading accepts, and handing out one of its datasets, by the cells of a table.
+-- A message that reading accepts, judged by the cells of a table.
 use Prim.Native.Nat.{ℕ}
 use mathlib.Core.List.{List}
+use Rattle.rules.specs.Answer.{Answer, accepted, unlessRefused}
 use Rattle.rules.specs.Judge.{judge}
-use Rattle.rules.specs.Value.{Handed, hand}
-use Rattle.rules.specs.Table.{fullTable}
-use Rattle.rules.specs.Cells.{tableAt}
-use Rattle.rules.specs.Offer.{Verdict, verdict, viewOfCells, modesOfCells}
-use Rattle.effects.specs.declared.Effect.{Effect}
-use Rattle.effects.specs.Told.{told}
+use Rattle.rules.specs.Offer.{portsOfCells}
+use Rattle.rules.specs.declared.Effect.{Effect}
 
--- a message with so many open bytes
-abbrev pub judgedBy : List ℕ → Effect → ℕ → ℕ
-judgedBy cells e count = judge (viewOfCells cells) (modesOfCells cells) (fullTable (tableAt cells)) (told e) count
+-- its refusal, 0 where it is accepted, by the number of its open bytes
+abbrev pub refusalBy : List ℕ → Effect → ℕ → ℕ
+refusalBy cells e count = judge (portsOfCells cells) e count
 
-abbrev pub verdictBy : List ℕ → Effect → ℕ → Verdict
-verdictBy cells e count = verdict (judgedBy cells e count) (told e)
-
-abbrev pub handedBy : List ℕ → Effect → List ℕ → ℕ → Handed
-handedBy cells e bytes number = hand (viewOfCells cells) (modesOfCells cells) (fullTable (tableAt cells)) (told e) bytes number
+abbrev pub judgedBy : List ℕ → Effect → ℕ → Answer Effect
+judgedBy cells e count = unlessRefused (refusalBy cells e count) (accepted e)

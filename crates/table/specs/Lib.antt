@@ -1,8 +1,10 @@
-pub mod Handed
+pub mod BlockAnswer
+pub mod DatasetAnswer
+pub mod FormatAnswer
 pub mod Judged
 pub mod Lines
-pub mod LogBlock
 pub mod LogLine
-pub mod Outcome
-pub mod Query
-pub mod Step
+pub mod Lookup
+pub mod OfferAnswer
+pub mod PortAnswer
+pub mod Stores

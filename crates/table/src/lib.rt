@@ -1,42 +1,48 @@
-// The port table of one hub in 448 cells that the caller lends, and values read by it. Any other
+// The port table of one hub in `TABLE_SIZE` cells that the caller lends, and values read by it. Any other
 // slice of cells is refused with 9, and stays as it is.
 pub mod block;
-mod hand;
+pub mod dataset;
 mod judge;
 mod line;
+mod lookup;
+mod number;
 pub mod offering;
-mod place;
 pub mod query;
-mod soundness;
 mod step;
-pub mod value;
 
 use crate::block::Block;
 use crate::block::block_sound;
-use crate::hand::hand_sound;
+use crate::dataset::Dataset;
+use crate::dataset::dataset_sound;
 use crate::offering::Outcome;
 use crate::offering::offer_sound;
-use crate::query::Format;
+use crate::query::ModeFormat;
 use crate::query::Port;
 use crate::query::format_of;
 use crate::query::port_of;
-use crate::soundness::is_sound;
 use crate::step::clear;
-use crate::value::Dataset;
 use protocol::Way;
+use rules::layout::TABLE_SIZE;
+use soundness::is_sound;
 ghost use mathlib.Core.Path.{_≡_};
-ghost use Rattle.rules.specs.Offer.{cellsAfter, handCells, offerCells};
 ghost use lib.ListN.{length};
-ghost use Rattle.table.specs.Handed.{handedOf};
-ghost use Rattle.table.specs.LogBlock.{blockCells, blockFits, blockOf, blockSays, blockText, runOf};
-ghost use Rattle.table.specs.Outcome.{emptied, emptyingSays, outcomeOf, saidBy};
-ghost use Rattle.table.specs.Query.{formatCells, formatSaid, portCells, portSaid};
+ghost use Rattle.rules.specs.Answer.{outcome};
+ghost use Rattle.rules.specs.Offer.{cellsAfter, datasetByCells, offerByCells};
+ghost use Rattle.table.specs.BlockAnswer.{blockAnswer, blockCells, blockFits, blockText, runOf};
+ghost use Rattle.table.specs.BlockAnswer as BlockAnswer;
+ghost use Rattle.table.specs.DatasetAnswer as DatasetAnswer;
+ghost use Rattle.table.specs.FormatAnswer.{formatByCells};
+ghost use Rattle.table.specs.FormatAnswer as FormatAnswer;
+ghost use Rattle.table.specs.OfferAnswer.{emptied, emptyAnswer};
+ghost use Rattle.table.specs.OfferAnswer as OfferAnswer;
+ghost use Rattle.table.specs.PortAnswer.{portByCells};
+ghost use Rattle.table.specs.PortAnswer as PortAnswer;
 
-// Makes an empty table of 448 cells of any content.
+// Makes an empty table of `TABLE_SIZE` cells of any content.
 pub fn empty(table: &mut [u32]) -> Outcome
-    ensures { λ r. ⌜ (outcomeOf r ≡ emptyingSays (now (table .entry))) × (now (table .exit) ≡ emptied (now (table .entry))) ⌝ }
+    ensures { λ r. ⌜ (OfferAnswer.answerOf r ≡ emptyAnswer (now (table .entry))) × (now (table .exit) ≡ emptied (now (table .entry))) ⌝ }
 {
-    if table.len() != 448 {
+    if table.len() != TABLE_SIZE {
         return Outcome::Refused {
             number: 9,
             place: 0,
@@ -48,7 +54,7 @@ pub fn empty(table: &mut [u32]) -> Outcome
 
 // Offers a message to the table, which follows it where it is accepted.
 pub fn offer(table: &mut [u32], message: &[u8], way: Way) -> Outcome
-    ensures { λ r. ⌜ (outcomeOf r ≡ saidBy (offerCells (now (table .entry)) (record { way = way; bytes = now (message .entry) }))) × (now (table .exit) ≡ cellsAfter (now (table .entry)) (record { way = way; bytes = now (message .entry) })) ⌝ }
+    ensures { λ r. ⌜ (OfferAnswer.answerOf r ≡ outcome (offerByCells (now (table .entry)) (record { way = way; bytes = now (message .entry) }))) × (now (table .exit) ≡ cellsAfter (now (table .entry)) (record { way = way; bytes = now (message .entry) })) ⌝ }
 {
     if is_sound(table) {
         return offer_sound(table, message, way);
@@ -61,10 +67,10 @@ pub fn offer(table: &mut [u32], message: &[u8], way: Way) -> Outcome
 
 // Hands out one dataset of a message, as the table stands.
 pub fn dataset(table: &[u32], message: &[u8], way: Way, number: usize) -> Dataset
-    ensures { λ r. ⌜ handedOf r ≡ handCells (now (table .entry)) (record { way = way; bytes = now (message .entry) }) number ⌝ }
+    ensures { λ r. ⌜ DatasetAnswer.answerOf r ≡ datasetByCells (now (table .entry)) (record { way = way; bytes = now (message .entry) }) number ⌝ }
 {
     if is_sound(table) {
-        return hand_sound(table, message, way, number);
+        return dataset_sound(table, message, way, number);
     }
     Dataset::Refused {
         number: 9,
@@ -74,7 +80,7 @@ pub fn dataset(table: &[u32], message: &[u8], way: Way, number: usize) -> Datase
 
 // What the table says of a port, its formats left out.
 pub fn port(table: &[u32], port: u8) -> Port
-    ensures { λ r. ⌜ portSaid r ≡ portCells (now (table .entry)) port ⌝ }
+    ensures { λ r. ⌜ PortAnswer.answerOf r ≡ portByCells (now (table .entry)) port ⌝ }
 {
     if is_sound(table) {
         return port_of(table, port);
@@ -86,13 +92,13 @@ pub fn port(table: &[u32], port: u8) -> Port
 }
 
 // What the table says of the value format of a port's mode.
-pub fn format(table: &[u32], port: u8, mode: u8) -> Format
-    ensures { λ r. ⌜ formatSaid r ≡ formatCells (now (table .entry)) port mode ⌝ }
+pub fn format(table: &[u32], port: u8, mode: u8) -> ModeFormat
+    ensures { λ r. ⌜ FormatAnswer.answerOf r ≡ formatByCells (now (table .entry)) port mode ⌝ }
 {
     if is_sound(table) {
         return format_of(table, port, mode);
     }
-    Format::Refused {
+    ModeFormat::Refused {
         number: 9,
         place: 0,
     }
@@ -107,7 +113,7 @@ pub fn read_block(
     input: &[u8],
     out: &mut [u8],
 ) -> Block
-    ensures { λ r. ⌜ (blockOf r ≡ blockSays 128 (runOf (now (table .entry)) lines refused (now (input .entry))) (length (now (out .entry)))) × (now (table .exit) ≡ blockCells 128 (runOf (now (table .entry)) lines refused (now (input .entry))) (length (now (out .entry)))) × (now (out .exit) ≡ blockText 128 (runOf (now (table .entry)) lines refused (now (input .entry))) (now (out .entry))) × (blockFits r (length (now (input .entry))) (length (now (out .entry)))) ⌝ }
+    ensures { λ r. ⌜ (BlockAnswer.answerOf r ≡ blockAnswer 128 (runOf (now (table .entry)) lines refused (now (input .entry))) (length (now (out .entry)))) × (now (table .exit) ≡ blockCells 128 (runOf (now (table .entry)) lines refused (now (input .entry))) (length (now (out .entry)))) × (now (out .exit) ≡ blockText 128 (runOf (now (table .entry)) lines refused (now (input .entry))) (now (out .entry))) × (blockFits r (length (now (input .entry))) (length (now (out .entry)))) ⌝ }
 {
     if is_sound(table) {
         return block_sound(table, lines, refused, input, out);

@@ -1,27 +1,25 @@
 // Offering a message to a sound table.
 use crate::judge::judged;
-use crate::step::answer;
-use crate::step::ask;
 use crate::step::attach;
 use crate::step::attach_virtual;
 use crate::step::clear;
 use crate::step::detach;
-use crate::step::set_format;
+use crate::step::tell;
 use codec::read;
 use codec::tail;
-use effects::Effect;
 use effects::effect_of;
 use protocol::Reading;
 use protocol::Way;
-ghost use Rattle.rules.specs.Offer.{appliedTo, cellsAfter, offerCells};
-ghost use Rattle.table.specs.Judged.{judgedBy, verdictBy};
+use rules::Effect;
 ghost use mathlib.Core.Path.{_≡_};
 ghost use mathlib.Core.Bool.{true};
+ghost use Rattle.rules.specs.Answer.{outcome};
 ghost use Rattle.rules.specs.Cells.{cellsOf, sound, tableAt};
+ghost use Rattle.rules.specs.Offer.{appliedTo, cellsAfter, offerByCells};
 ghost use Rattle.rules.specs.Ranges.{effectFits};
 ghost use Rattle.rules.specs.Table.{apply};
-ghost use Rattle.effects.specs.Told.{told};
-ghost use Rattle.table.specs.Outcome.{outcomeOf, saidBy};
+ghost use Rattle.table.specs.Judged.{judgedBy, refusalBy};
+ghost use Rattle.table.specs.OfferAnswer.{answerOf};
 
 // What offering a message gives: it is accepted, or the number and place of the refusal.
 pub enum Outcome {
@@ -30,11 +28,12 @@ pub enum Outcome {
 }
 
 // What an accepted message changes.
-fn change(table: &mut [u32], e: Effect, count: usize)
-    requires { ⌜ (sound (now table) ≡ true) × (effectFits (told e) ≡ true) × (judgedBy (now table) e count ≡ 0) ⌝ }
-    ensures { λ _. ⌜ now (table .exit) ≡ cellsOf (apply (told e) (tableAt (now (table .entry)))) ⌝ }
+fn follow(table: &mut [u32], e: Effect, count: usize)
+    requires { ⌜ (sound (now table) ≡ true) × (effectFits e ≡ true) × (refusalBy (now table) e count ≡ 0) ⌝ }
+    ensures { λ _. ⌜ now (table .exit) ≡ cellsOf (apply e (tableAt (now (table .entry)))) ⌝ }
 {
     match e {
+        Effect::ToPort { port, change } => tell(table, port, change),
         Effect::Attach { port, device } => attach(table, port, device),
         Effect::AttachVirtual {
             port,
@@ -43,46 +42,15 @@ fn change(table: &mut [u32], e: Effect, count: usize)
             port_b,
         } => attach_virtual(table, port, device, port_a, port_b),
         Effect::Detach { port } => detach(table, port),
-        Effect::SetFormat {
-            port,
-            mode,
-            datasets,
-            kind,
-            figures,
-            decimals,
-        } => set_format(table, port, mode, datasets, kind, figures, decimals),
-        Effect::Answer {
-            port,
-            mode,
-            delta,
-            notify,
-        } => answer(table, port, mode, delta, notify),
-        Effect::Ask {
-            port,
-            mode,
-            delta,
-            notify,
-        } => ask(table, port, mode, delta, notify),
         Effect::Empty => clear(table),
         _ => {}
     }
 }
 
-// Any message: judged, and where it is accepted, followed.
-pub(crate) fn offer_sound(table: &mut [u32], message: &[u8], way: Way) -> Outcome
-    requires { ⌜ sound (now table) ≡ true ⌝ }
-    ensures { λ r. ⌜ (outcomeOf r ≡ saidBy (offerCells (now (table .entry)) (record { way = way; bytes = now (message .entry) }))) × (now (table .exit) ≡ cellsAfter (now (table .entry)) (record { way = way; bytes = now (message .entry) })) ⌝ }
-{
-    match read(message, way) {
-        Reading::Accepted(m) => offer_effect(table, effect_of(m), tail(message, 4).len()),
-        Reading::Refused { number, place } => Outcome::Refused { number, place },
-    }
-}
-
 // A message that reading accepts, with so many bytes from the fourth on.
 pub(crate) fn offer_effect(table: &mut [u32], e: Effect, count: usize) -> Outcome
-    requires { ⌜ (sound (now table) ≡ true) × (effectFits (told e) ≡ true) ⌝ }
-    ensures { λ r. ⌜ (outcomeOf r ≡ saidBy (verdictBy (now (table .entry)) e count)) × (now (table .exit) ≡ appliedTo (now (table .entry)) (verdictBy (now (table .entry)) e count)) ⌝ }
+    requires { ⌜ (sound (now table) ≡ true) × (effectFits e ≡ true) ⌝ }
+    ensures { λ r. ⌜ (answerOf r ≡ outcome (judgedBy (now (table .entry)) e count)) × (now (table .exit) ≡ appliedTo (now (table .entry)) (judgedBy (now (table .entry)) e count)) ⌝ }
 {
     let refusal = judged(table, e, count);
     if refusal != 0 {
@@ -91,6 +59,17 @@ pub(crate) fn offer_effect(table: &mut [u32], e: Effect, count: usize) -> Outcom
             place: 0,
         };
     }
-    change(table, e, count);
+    follow(table, e, count);
     Outcome::Accepted
+}
+
+// Any message: judged, and where it is accepted, followed.
+pub(crate) fn offer_sound(table: &mut [u32], message: &[u8], way: Way) -> Outcome
+    requires { ⌜ sound (now table) ≡ true ⌝ }
+    ensures { λ r. ⌜ (answerOf r ≡ outcome (offerByCells (now (table .entry)) (record { way = way; bytes = now (message .entry) }))) × (now (table .exit) ≡ cellsAfter (now (table .entry)) (record { way = way; bytes = now (message .entry) })) ⌝ }
+{
+    match read(message, way) {
+        Reading::Accepted(m) => offer_effect(table, effect_of(m), tail(message, 4).len()),
+        Reading::Refused { number, place } => Outcome::Refused { number, place },
+    }
 }

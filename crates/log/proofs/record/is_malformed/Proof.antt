@@ -7,9 +7,6 @@ use Rattle.log.proofs.Records.{wrong-size, wrong-way, wrong-zeros, by-e
 use Rattle.log.proofs.record.is_malformed.Statement.{statement}
 use Rattle.log.proofs.record.is_malformed.Tie as tie
 
-add-if1 : tie.Need-add-if1
-add-if1 c = search needs
-
 returns : tie.Need-returns
 returns c = wrong-size 128 (c .before .before .args .s .now) (c .if1 .taken)
 
@@ -42,9 +39,6 @@ message-size-requires c κs = search needs
 add-all-zero : tie.Need-add-all-zero
 add-all-zero c = search needs
 
-add-all-zero-2 : tie.Need-add-all-zero-2
-add-all-zero-2 c = search needs
-
 sub-all-zero-2 : tie.Need-sub-all-zero-2
 sub-all-zero-2 c = omega (arith, c .message-size .ensures .1)
 
@@ -70,7 +64,6 @@ pub is-malformed-spec : {M : Type 1} → statement M
 is-malformed-spec =
     tie.close
     (tie.spec
-    add-if1
     returns
     shared-slice-read-if2
     returns-2
@@ -81,7 +74,6 @@ is-malformed-spec =
     returns-3
     message-size-requires
     add-all-zero
-    add-all-zero-2
     sub-all-zero-2
     part-all-zero-start-2
     part-all-zero-end-2
