@@ -1,5 +1,1 @@
 pub mod Places
-pub mod SoundnessExact
-pub mod SoundnessRecord
-pub mod SoundnessTable
-pub mod SoundnessTests

@@ -1,6 +1,6 @@
 -- Going through the places of a table in its cells.
-use Prim.Native.Nat.{ℕ, suc, _+_, _*_, _-_, _≤_, _<_}
-use native.Mathlib.Nat.{zero-add}
+use Prim.Native.Nat.{ℕ, zero, suc, _+_, _*_, _-_, _≤_, _<_}
+use native.Mathlib.Nat.{zero-add, add-zero}
 use native.Mathlib.Omega.{arith}
 use mathlib.Core.Path.{_≡_, refl, sym, _∙_, ap}
 use mathlib.Core.Bool.{Bool, true, false, cond}
@@ -8,55 +8,62 @@ use mathlib.Core.List.{List, [], _∷_}
 use mathlib.Core.Option.{none, some}
 use mathlib.Core.Logic.{⊎-elim}
 use borrow.Author.Tests.{eqb-true, eqb-false, eq-eqb, ne-eqb, lt-ltb}
-use lib.Dec.{eqb}
+use lib.Dec.{eqb, eqb·suc-suc}
 use lib.ListN.{length, getD, drop}
 use lib.Seq.{getD-take, getD-drop, drop-drop}
 use Rattle.protocol.proofs.Tests.{which}
+use Rattle.rules.specs.Layout.{places, stride, tableSize, wiringIndex, portIndex}
 use Rattle.rules.specs.Table.{Record, Table, viewOfTable, fullTable}
 use Rattle.rules.specs.Cells.{recordAt, placeAt, placesAt, tableAt}
-use Rattle.soundness.specs.Place.{placeAtIndex, factsAt, portAt, placeOf, firstFree}
-
--- the table from the place at an index on
-abbrev pub fromPlace : List ℕ → ℕ → Table
-fromPlace cells i = placesAt (16 - i) (drop (28 * i) cells)
+use Rattle.soundness.specs.Place.{placeAtIndex, cellOf, factsAt, portAt, placeOf, firstFree, findPlace, freePlace, fromPlace}
 
 -- a cell of the place at an index
-pub cell : (cells : List ℕ) (i k : ℕ) → k < 28 → getD (placeAtIndex cells i) k 0 ≡ getD cells (28 * i + k) 0
-cell cells i k h = getD-take 28 (drop (28 * i) cells) k 0 h ∙ getD-drop (28 * i) cells k 0
+pub cell : (cells : List ℕ) (i k : ℕ) → k < stride → getD (placeAtIndex cells i) k 0 ≡ cellOf cells i k
+cell cells i k h = getD-take stride (drop (stride * i) cells) k 0 h ∙ getD-drop (stride * i) cells k 0
 
-pub next : (cells : List ℕ) (i : ℕ) → i < 16 → fromPlace cells i ≡ placeAt (placeAtIndex cells i) ∷ fromPlace cells (i + 1)
+pub next : (cells : List ℕ) (i : ℕ) → i < places → fromPlace cells i ≡ placeAt (placeAtIndex cells i) ∷ fromPlace cells (i + 1)
 next cells i h =
-    let more : 16 - i ≡ suc (16 - (i + 1)) = omega arith in
-    let place : 28 * i + 28 ≡ 28 * (i + 1) = omega arith in
-    ap (λ (n : ℕ). placesAt n (drop (28 * i) cells)) more
-    ∙ ap (λ (l : List ℕ). placeAt (placeAtIndex cells i) ∷ placesAt (16 - (i + 1)) l) (drop-drop 28 (28 * i) cells ∙ ap (λ (n : ℕ). drop n cells) place)
+    let more : places - i ≡ suc (places - (i + 1)) = omega arith in
+    let place : stride * i + stride ≡ stride * (i + 1) = omega arith in
+    ap (λ (n : ℕ). placesAt n (drop (stride * i) cells)) more
+    ∙ ap (λ (l : List ℕ). placeAt (placeAtIndex cells i) ∷ placesAt (places - (i + 1)) l) (drop-drop stride (stride * i) cells ∙ ap (λ (n : ℕ). drop n cells) place)
 
--- a place that is free
-pub free-first : (cells : List ℕ) (i : ℕ) → i < 16 → getD cells (28 * i) 0 ≡ 0 → fromPlace cells i ≡ none ∷ fromPlace cells (i + 1)
-free-first cells i h e =
-    let kind : getD (placeAtIndex cells i) 0 0 ≡ 0 = cell cells i 0 (omega arith) ∙ ap (λ (n : ℕ). getD cells n 0) (omega arith) ∙ e in
-    next cells i h ∙ ap (λ (b : Bool). cond b none (some (recordAt (placeAtIndex cells i))) ∷ fromPlace cells (i + 1)) (eq-eqb (getD (placeAtIndex cells i) 0 0) 0 kind)
+-- ---- the first of the places left
 
--- a place with a record
-pub record-first : (cells : List ℕ) (i : ℕ) → i < 16 → (getD cells (28 * i) 0 ≡ 0 → ⊥) → fromPlace cells i ≡ some (recordAt (placeAtIndex cells i)) ∷ fromPlace cells (i + 1)
-record-first cells i h used =
-    let kind : getD (placeAtIndex cells i) 0 0 ≡ getD cells (28 * i) 0 = cell cells i 0 (omega arith) ∙ ap (λ (n : ℕ). getD cells n 0) (omega arith) in
-    next cells i h ∙ ap (λ (b : Bool). cond b none (some (recordAt (placeAtIndex cells i))) ∷ fromPlace cells (i + 1)) (ne-eqb (getD (placeAtIndex cells i) 0 0) 0 (λ (e : getD (placeAtIndex cells i) 0 0 ≡ 0). used (sym kind ∙ e)))
+module _ (cells : List ℕ) (i : ℕ) (h : i < places) where
+  by-wiring : (free : Bool) → eqb (cellOf cells i wiringIndex) 0 ≡ free → fromPlace cells i ≡ cond free none (some (recordAt (placeAtIndex cells i))) ∷ fromPlace cells (i + 1)
+  by-wiring free e =
+      next cells i h ∙ ap (λ (b : Bool). cond b none (some (recordAt (placeAtIndex cells i))) ∷ fromPlace cells (i + 1)) (ap (λ (n : ℕ). eqb n 0) (cell cells i wiringIndex (omega arith)) ∙ e)
 
-its-port : (cells : List ℕ) (i : ℕ) → recordAt (placeAtIndex cells i) .port ≡ getD cells (28 * i + 1) 0
+  -- free
+  pub free-first : cellOf cells i wiringIndex ≡ 0 → fromPlace cells i ≡ none ∷ fromPlace cells (i + 1)
+  free-first e = by-wiring true (eq-eqb (cellOf cells i wiringIndex) 0 e)
+
+  -- with a record
+  pub record-first : (cellOf cells i wiringIndex ≡ 0 → ⊥) → fromPlace cells i ≡ some (recordAt (placeAtIndex cells i)) ∷ fromPlace cells (i + 1)
+  record-first used = by-wiring false (ne-eqb (cellOf cells i wiringIndex) 0 used)
+
+its-port : (cells : List ℕ) (i : ℕ) → recordAt (placeAtIndex cells i) .port ≡ cellOf cells i portIndex
 unfolding recordAt
-its-port cells i = cell cells i 1 (omega arith)
+its-port cells i = cell cells i portIndex (omega arith)
 
-pub none-left : (cells : List ℕ) (i port : ℕ) → 16 ≤ i → viewOfTable (fromPlace cells i) port ≡ none
-none-left cells i port h = let none-more : 16 - i ≡ 0 = omega arith in rw none-more
+-- ---- no place left
 
-pub nowhere : (cells : List ℕ) → factsAt cells 16 ≡ none
+over : (i : ℕ) → places ≤ i → places - i ≡ 0
+over i h = omega arith
+
+pub none-left : (cells : List ℕ) (i port : ℕ) → places ≤ i → viewOfTable (fromPlace cells i) port ≡ none
+none-left cells i port h = rw (over i h)
+
+pub place-end : (cells : List ℕ) (i port : ℕ) → places ≤ i → placeOf (fromPlace cells i) port ≡ 0
+place-end cells i port h = rw (over i h)
+
+pub free-end : (cells : List ℕ) (i : ℕ) → places ≤ i → firstFree (fromPlace cells i) ≡ 0
+free-end cells i h = rw (over i h)
+
+pub nowhere : (cells : List ℕ) → factsAt cells places ≡ none
 unfolding factsAt
 nowhere cells = refl
-
-pub from-start : (cells : List ℕ) (port : ℕ) → viewOfTable (tableAt cells) port ≡ viewOfTable (fromPlace cells 0) port
-unfolding tableAt
-from-start cells port = refl
 
 -- ---- by the test of a place
 
@@ -64,16 +71,6 @@ from-start cells port = refl
 data Past (t u : Table) (port : ℕ) : Type 0 where
   free : t ≡ none ∷ u → Past t u port
   other : (r : Record) → t ≡ some r ∷ u → eqb (r .port) port ≡ false → Past t u port
-
-past : (cells : List ℕ) (i port : ℕ) → i < 16 → portAt cells i port ≡ false → Past (fromPlace cells i) (fromPlace cells (i + 1)) port
-unfolding portAt
-past cells i port h e =
-    ⊎-elim
-    (λ (k : eqb (getD cells (28 * i) 0) 0 ≡ true). free (free-first cells i h (eqb-true (getD cells (28 * i) 0) 0 k)))
-    (λ (k : eqb (getD cells (28 * i) 0) 0 ≡ false).
-    other (recordAt (placeAtIndex cells i)) (record-first cells i h (eqb-false (getD cells (28 * i) 0) 0 k))
-    (ap (λ (n : ℕ). eqb n port) (its-port cells i) ∙ rw k at e))
-    (which (eqb (getD cells (28 * i) 0) 0))
 
 view-past : (t u : Table) (port : ℕ) → Past t u port → viewOfTable t port ≡ viewOfTable u port
 view-past t u port (free e) = ap (λ (x : Table). viewOfTable x port) e
@@ -83,38 +80,36 @@ place-past : (t u : Table) (port : ℕ) → Past t u port → placeOf t port ≡
 place-past t u port (free e) = ap (λ (x : Table). placeOf x port) e
 place-past t u port (other r e n) = ap (λ (x : Table). placeOf x port) e ∙ ap (λ (b : Bool). cond b 0 (suc (placeOf u port))) n
 
-pub not-at : (cells : List ℕ) (i port : ℕ) → i < 16 → portAt cells i port ≡ false → viewOfTable (fromPlace cells i) port ≡ viewOfTable (fromPlace cells (i + 1)) port
-not-at cells i port h e = view-past (fromPlace cells i) (fromPlace cells (i + 1)) port (past cells i port h e)
+module _ (cells : List ℕ) (i port : ℕ) (h : i < places) where
+  past : portAt cells i port ≡ false → Past (fromPlace cells i) (fromPlace cells (i + 1)) port
+  unfolding portAt
+  past e =
+      ⊎-elim
+      (λ (k : eqb (cellOf cells i wiringIndex) 0 ≡ true). free (by-wiring cells i h true k))
+      (λ (k : eqb (cellOf cells i wiringIndex) 0 ≡ false). other (recordAt (placeAtIndex cells i)) (by-wiring cells i h false k) (ap (λ (n : ℕ). eqb n port) (its-port cells i) ∙ rw k at e))
+      (which (eqb (cellOf cells i wiringIndex) 0))
 
-pub place-later : (cells : List ℕ) (i port : ℕ) → i < 16 → portAt cells i port ≡ false → placeOf (fromPlace cells i) port ≡ suc (placeOf (fromPlace cells (i + 1)) port)
-place-later cells i port h e = place-past (fromPlace cells i) (fromPlace cells (i + 1)) port (past cells i port h e)
+  pub not-at : portAt cells i port ≡ false → viewOfTable (fromPlace cells i) port ≡ viewOfTable (fromPlace cells (i + 1)) port
+  not-at e = view-past (fromPlace cells i) (fromPlace cells (i + 1)) port (past e)
 
--- the place with the record of a port
-record Own (cells : List ℕ) (i port : ℕ) : Type 0 where
-  first : fromPlace cells i ≡ some (recordAt (placeAtIndex cells i)) ∷ fromPlace cells (i + 1)
-  same : eqb (recordAt (placeAtIndex cells i) .port) port ≡ true
+  pub place-later : portAt cells i port ≡ false → placeOf (fromPlace cells i) port ≡ suc (placeOf (fromPlace cells (i + 1)) port)
+  place-later e = place-past (fromPlace cells i) (fromPlace cells (i + 1)) port (past e)
 
-own : (cells : List ℕ) (i port : ℕ) → i < 16 → portAt cells i port ≡ true → Own cells i port
-unfolding portAt
-own cells i port h e =
-    ⊎-elim
-    (λ (k : eqb (getD cells (28 * i) 0) 0 ≡ true). let z : false ≡ true = rw k at e in let one : _≡_ {A = ℕ} 0 1 = cc in absurd (omega arith))
-    (λ (k : eqb (getD cells (28 * i) 0) 0 ≡ false). record {
-      first = record-first cells i h (eqb-false (getD cells (28 * i) 0) 0 k);
-      same = ap (λ (n : ℕ). eqb n port) (its-port cells i) ∙ rw k at e;
-    })
-    (which (eqb (getD cells (28 * i) 0) 0))
+  -- the place with the record of a port
+  own : portAt cells i port ≡ true → (fromPlace cells i ≡ some (recordAt (placeAtIndex cells i)) ∷ fromPlace cells (i + 1)) × (eqb (recordAt (placeAtIndex cells i) .port) port ≡ true)
+  unfolding portAt
+  own e =
+      ⊎-elim
+      (λ (k : eqb (cellOf cells i wiringIndex) 0 ≡ true). let z : false ≡ true = rw k at e in let one : _≡_ {A = ℕ} 0 1 = cc in absurd (omega arith))
+      (λ (k : eqb (cellOf cells i wiringIndex) 0 ≡ false). (by-wiring cells i h false k, ap (λ (n : ℕ). eqb n port) (its-port cells i) ∙ rw k at e))
+      (which (eqb (cellOf cells i wiringIndex) 0))
 
-pub is-at : (cells : List ℕ) (i port : ℕ) → i < 16 → portAt cells i port ≡ true → viewOfTable (fromPlace cells i) port ≡ factsAt cells i
-unfolding factsAt
-is-at cells i port h e =
-    let k = own cells i port h e in
-    ap (λ (t : Table). viewOfTable t port) (k .first) ∙ rw (k .same, lt-ltb i 16 h)
+  pub is-at : portAt cells i port ≡ true → viewOfTable (fromPlace cells i) port ≡ factsAt cells i
+  unfolding factsAt
+  is-at e = let k = own e in ap (λ (t : Table). viewOfTable t port) (k .0) ∙ rw (k .1, lt-ltb i places h)
 
-pub place-here : (cells : List ℕ) (i port : ℕ) → i < 16 → portAt cells i port ≡ true → placeOf (fromPlace cells i) port ≡ 0
-place-here cells i port h e =
-    let k = own cells i port h e in
-    ap (λ (t : Table). placeOf t port) (k .first) ∙ ap (λ (b : Bool). cond b 0 (suc (placeOf (fromPlace cells (i + 1)) port))) (k .same)
+  pub place-here : portAt cells i port ≡ true → placeOf (fromPlace cells i) port ≡ 0
+  place-here e = let k = own e in ap (λ (t : Table). placeOf t port) (k .0) ∙ ap (λ (b : Bool). cond b 0 (suc (placeOf (fromPlace cells (i + 1)) port))) (k .1)
 
 -- ---- going on from place to place
 
@@ -126,41 +121,73 @@ step-on n i k l e s = omega arith
 pub step-last : (n i k : ℕ) → n ≡ i + k → _≡_ {A = ℕ} k 0 → i ≡ n
 step-last n i k e z = omega arith
 
+-- ---- the place of a port's record
+
+pub find-place : (cells : List ℕ) → length cells ≡ tableSize → (port : ℕ) → findPlace cells port ≡ placeOf (tableAt cells) port
+unfolding findPlace
+find-place cells size port = ap (λ (b : Bool). cond b (placeOf (tableAt cells) port) places) (eq-eqb (length cells) tableSize size)
+
+pub no-place : (cells : List ℕ) → (length cells ≡ tableSize → ⊥) → (port : ℕ) → places ≡ findPlace cells port
+unfolding findPlace
+no-place cells size port = sym (ap (λ (b : Bool). cond b (placeOf (tableAt cells) port) places) (ne-eqb (length cells) tableSize size))
+
+pub from-start : (cells : List ℕ) (port : ℕ) → viewOfTable (tableAt cells) port ≡ viewOfTable (fromPlace cells 0) port
+unfolding tableAt
+from-start cells port = refl
+
 pub place-start : (cells : List ℕ) (port : ℕ) → placeOf (tableAt cells) port ≡ 0 + placeOf (fromPlace cells 0) port
 unfolding tableAt
-place-start cells port = sym (zero-add (placeOf (placesAt 16 cells) port))
+place-start cells port = sym (zero-add (placeOf (placesAt places cells) port))
 
-pub place-end : (cells : List ℕ) (i port : ℕ) → 16 ≤ i → placeOf (fromPlace cells i) port ≡ 0
-place-end cells i port h = let none-more : 16 - i ≡ 0 = omega arith in rw none-more
+-- what is known of a port from a place on, by the first place that has its record
+pub found-from : (cells : List ℕ) (port left i : ℕ) → i + left ≡ places → viewOfTable (fromPlace cells i) port ≡ factsAt cells (i + placeOf (fromPlace cells i) port)
+found-from cells port zero i e =
+    let all : places ≡ i = omega arith in
+    none-left cells i port (omega arith) ∙ sym (ap (factsAt cells) (ap (λ (k : ℕ). i + k) (place-end cells i port (omega arith)) ∙ add-zero i ∙ sym all) ∙ nowhere cells)
+found-from cells port (suc left) i e =
+    let below : i < places = omega arith in
+    ⊎-elim
+    (λ (k : portAt cells i port ≡ true). is-at cells i port below k ∙ ap (factsAt cells) (step-last _ i _ refl (place-here cells i port below k)))
+    (λ (k : portAt cells i port ≡ false).
+    not-at cells i port below k ∙ found-from cells port left (i + 1) (omega arith) ∙ ap (factsAt cells) (sym (step-on _ i _ _ refl (place-later cells i port below k))))
+    (which (portAt cells i port))
+
+pub found : (cells : List ℕ) → length cells ≡ tableSize → (port r : ℕ) → r ≡ findPlace cells port → viewOfTable (tableAt cells) port ≡ factsAt cells r
+found cells size port r e =
+    from-start cells port ∙ found-from cells port places 0 refl ∙ ap (factsAt cells) (sym (e ∙ find-place cells size port ∙ place-start cells port))
+
+-- ---- the lowest free place
+
+pub free-place : (cells : List ℕ) → length cells ≡ tableSize → freePlace cells ≡ firstFree (tableAt cells)
+unfolding freePlace
+free-place cells size = ap (λ (b : Bool). cond b (firstFree (tableAt cells)) places) (eq-eqb (length cells) tableSize size)
+
+pub no-free-place : (cells : List ℕ) → (length cells ≡ tableSize → ⊥) → places ≡ freePlace cells
+unfolding freePlace
+no-free-place cells size = sym (ap (λ (b : Bool). cond b (firstFree (tableAt cells)) places) (ne-eqb (length cells) tableSize size))
 
 pub free-start : (cells : List ℕ) → firstFree (tableAt cells) ≡ 0 + firstFree (fromPlace cells 0)
 unfolding tableAt
-free-start cells = sym (zero-add (firstFree (placesAt 16 cells)))
+free-start cells = sym (zero-add (firstFree (placesAt places cells)))
 
-pub free-end : (cells : List ℕ) (i : ℕ) → 16 ≤ i → firstFree (fromPlace cells i) ≡ 0
-free-end cells i h = let none-more : 16 - i ≡ 0 = omega arith in rw none-more
-
-pub free-here : (cells : List ℕ) (i : ℕ) → i < 16 → getD cells (28 * i) 0 ≡ 0 → firstFree (fromPlace cells i) ≡ 0
+pub free-here : (cells : List ℕ) (i : ℕ) → i < places → cellOf cells i wiringIndex ≡ 0 → firstFree (fromPlace cells i) ≡ 0
 free-here cells i h e = ap firstFree (free-first cells i h e)
 
-pub free-later : (cells : List ℕ) (i : ℕ) → i < 16 → (getD cells (28 * i) 0 ≡ 0 → ⊥) → firstFree (fromPlace cells i) ≡ suc (firstFree (fromPlace cells (i + 1)))
+pub free-later : (cells : List ℕ) (i : ℕ) → i < places → (cellOf cells i wiringIndex ≡ 0 → ⊥) → firstFree (fromPlace cells i) ≡ suc (firstFree (fromPlace cells (i + 1)))
 free-later cells i h used = ap firstFree (record-first cells i h used)
 
 -- full, by the lowest free place
 full-first : (t : Table) → fullTable t ≡ eqb (firstFree t) (length t)
 full-first [] = refl
 full-first (none ∷ t) = sym (ne-eqb 0 (suc (length t)) (λ (e : 0 ≡ suc (length t)). omega arith))
-full-first (some r ∷ t) = full-first t ∙ eqb-suc (firstFree t) (length t)
-  where
-    eqb-suc : (a b : ℕ) → eqb a b ≡ eqb (suc a) (suc b)
-    eqb-suc a b =
-        ⊎-elim (λ (k : eqb a b ≡ true). k ∙ sym (eq-eqb (suc a) (suc b) (ap suc (eqb-true a b k))))
-        (λ (k : eqb a b ≡ false). let n = eqb-false a b k in k ∙ sym (ne-eqb (suc a) (suc b) (λ (e : suc a ≡ suc b). n (omega arith))))
-        (which (eqb a b))
+full-first (some r ∷ t) = full-first t ∙ sym (eqb·suc-suc (firstFree t) (length t))
 
-pub sixteen : (cells : List ℕ) → length (tableAt cells) ≡ 16
+pub sixteen : (cells : List ℕ) → length (tableAt cells) ≡ places
 unfolding tableAt
 sixteen cells = refl
 
-pub full-at : (cells : List ℕ) (i : ℕ) → i ≡ firstFree (tableAt cells) → fullTable (tableAt cells) ≡ eqb i 16
+pub full-at : (cells : List ℕ) (i : ℕ) → i ≡ firstFree (tableAt cells) → fullTable (tableAt cells) ≡ eqb i places
 full-at cells i e = full-first (tableAt cells) ∙ (λ j. eqb (sym e j) (sixteen cells j))
+
+pub free-is : (cells : List ℕ) → length cells ≡ tableSize → (r : ℕ) → r ≡ freePlace cells → fullTable (tableAt cells) ≡ eqb r places
+free-is cells size r e = full-at cells r (e ∙ free-place cells size)

@@ -1,5 +1,5 @@
 -- A place of the table in its cells, the place of a port's record, and the lowest free one.
-use Prim.Native.Nat.{ℕ, suc, _+_, _*_}
+use Prim.Native.Nat.{ℕ, suc, _+_, _*_, _-_}
 use mathlib.Core.Bool.{Bool, false, cond}
 use mathlib.Core.List.{List, [], _∷_}
 use mathlib.Core.Option.{Option, none, some}
@@ -9,7 +9,7 @@ use Rattle.rules.specs.Layout.{places, stride, tableSize, wiringIndex, portInde
 use Rattle.rules.specs.Facts.{Facts}
 use Rattle.rules.specs.declared.Wiring.{Wiring}
 use Rattle.rules.specs.Table.{Table}
-use Rattle.rules.specs.Cells.{recordAt, wiringAt, tableAt}
+use Rattle.rules.specs.Cells.{recordAt, wiringAt, placesAt, tableAt}
 
 -- the cells of the place at an index
 abbrev pub placeAtIndex : List ℕ → ℕ → List ℕ
@@ -49,3 +49,7 @@ findPlace cells port = cond (eqb (length cells) tableSize) (placeOf (tableAt cel
 
 unfoldable pub freePlace : List ℕ → ℕ
 freePlace cells = cond (eqb (length cells) tableSize) (firstFree (tableAt cells)) places
+
+-- the table from the place at an index on
+abbrev pub fromPlace : List ℕ → ℕ → Table
+fromPlace cells i = placesAt (places - i) (drop (stride * i) cells)

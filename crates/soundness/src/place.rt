@@ -1,49 +1,65 @@
-// Finding a port's place among the sixteen, and a free one.
+// The place of a port's record, and a free place.
 ghost use mathlib.Core.Path.{_≡_};
-ghost use Prim.Native.Nat.{_≤_, _<_};
-ghost use lib.Dec.{eqb};
+ghost use Prim.Native.Nat.{_+_, _≤_, _<_};
 ghost use lib.ListN.{length};
-ghost use Rattle.rules.specs.Table.{viewOfTable, fullTable};
-ghost use Rattle.rules.specs.Cells.{tableAt};
-ghost use Rattle.soundness.specs.Place.{factsAt, portAt, placeOf, firstFree};
+ghost use Rattle.rules.specs.Layout.{places, tableSize};
+ghost use Rattle.soundness.specs.Place.{fromPlace, portAt, placeOf, findPlace, freePlace};
+use rules::layout::FREE;
+use rules::layout::PLACES;
+use rules::layout::PORT;
+use rules::layout::STRIDE;
+use rules::layout::TABLE_SIZE;
+use rules::layout::WIRING;
 
 // Whether the record of a port stands at a place.
 fn is_at(table: &[u32], place: usize, port: u32) -> bool
-    requires { ⌜ (length (now table) ≡ 448) × (place < 16) ⌝ }
+    requires { ⌜ (length (now table) ≡ tableSize) × (place < places) ⌝ }
     ensures { λ r. ⌜ r ≡ portAt (now (table .entry)) place port ⌝ }
 {
-    if table[28 * place] == 0 {
+    if table[STRIDE * place + WIRING] == FREE {
         return false;
     }
-    table[28 * place + 1] == port
+    table[STRIDE * place + PORT] == port
 }
 
-// The place of a port's record; 16 where the port is not present.
-pub(crate) fn find(table: &[u32], port: u32) -> usize
-    requires { ⌜ length (now table) ≡ 448 ⌝ }
-    ensures { λ r. ⌜ (r ≤ 16) × (viewOfTable (tableAt (now (table .entry))) port ≡ factsAt (now (table .entry)) r) × (r ≡ placeOf (tableAt (now (table .entry))) port) ⌝ }
+// The first place from an index on that has a port's record; the number of places where none has.
+pub(crate) fn find_from(table: &[u32], from: usize, port: u32) -> usize
+    requires { ⌜ (length (now table) ≡ tableSize) × (from ≤ places) ⌝ }
+    ensures { λ r. ⌜ (r ≤ places) × (r ≡ from + placeOf (fromPlace (now (table .entry)) from) port) ⌝ }
 {
-    let mut i = 0;
-    while i < 16 {
+    let mut i = from;
+    while i < PLACES {
         if is_at(table, i, port) {
             return i;
         }
         i += 1;
     }
-    16
+    PLACES
 }
 
-// The lowest free place; 16 where none is.
-pub(crate) fn free_place(table: &[u32]) -> usize
-    requires { ⌜ length (now table) ≡ 448 ⌝ }
-    ensures { λ r. ⌜ (r ≤ 16) × (fullTable (tableAt (now (table .entry))) ≡ eqb r 16) × (r ≡ firstFree (tableAt (now (table .entry)))) ⌝ }
+// The place of a port's record; the number of places where the port is not present, or the cells are no table's.
+pub fn find(table: &[u32], port: u32) -> usize
+    ensures { λ r. ⌜ (r ≤ places) × (r ≡ findPlace (now (table .entry)) port) ⌝ }
 {
+    if table.len() != TABLE_SIZE {
+        return PLACES;
+    }
+    find_from(table, 0, port)
+}
+
+// The lowest free place; the number of places where none is, or the cells are no table's.
+pub fn free_place(table: &[u32]) -> usize
+    ensures { λ r. ⌜ (r ≤ places) × (r ≡ freePlace (now (table .entry))) ⌝ }
+{
+    if table.len() != TABLE_SIZE {
+        return PLACES;
+    }
     let mut i = 0;
-    while i < 16 {
-        if table[28 * i] == 0 {
+    while i < PLACES {
+        if table[STRIDE * i + WIRING] == FREE {
             return i;
         }
         i += 1;
     }
-    16
+    PLACES
 }

@@ -1,8 +1,3 @@
-use Prim.Native.Nat.{_+_, _*_}
-use mathlib.Core.Path.{sym, ap}
-use mathlib.Core.Bool.{Bool, false, cond}
-use lib.Dec.{eqb}
-use lib.ListN.{getD}
 use borrow.Author.Tests.{eq-eqb, ne-eqb}
 use Rattle.soundness.specs.Place.{portAt}
 use borrow.Author.Needs.{needs}
@@ -12,6 +7,9 @@ use Rattle.soundness.proofs.place.is_at.Tie as tie
 mul-if1 : tie.Need-mul-if1
 mul-if1 c = search needs
 
+add-if1 : tie.Need-add-if1
+add-if1 c = search needs
+
 mul-if1-2 : tie.Need-mul-if1-2
 mul-if1-2 c = search needs
 
@@ -20,7 +18,7 @@ shared-slice-read-if1 c = search needs
 
 returns : tie.Need-returns
 unfolding portAt
-returns c = sym (ap (λ (b : Bool). cond b false (eqb (getD (c .before .before .args .table .now) (28 * c .before .before .args .place + 1) 0) (c .before .before .args .port))) (eq-eqb _ _ (c .if1 .taken)))
+returns c = rw (eq-eqb _ _ (c .if1 .taken))
 
 mul-result : tie.Need-mul-result
 mul-result c = search needs
@@ -43,6 +41,7 @@ is-at-spec =
     tie.close
     (tie.spec
     mul-if1
+    add-if1
     mul-if1-2
     shared-slice-read-if1
     returns
