@@ -11,10 +11,17 @@ use borrow.Author.Tests.{eq-eqb, ne-eqb}
 use lib.Dec.{eqb}
 use lib.ListN.{length, getD, set}
 use Rattle.protocol.specs.Form.{upFrom}
-use Rattle.rules.specs.Facts.{Setup, Format, Wiring, unjoined, virtual, Facts}
-use Rattle.rules.specs.Table.{Record, newRecord, wired, withFormat, answeredState, withAnswer, withAsk}
-use Rattle.rules.specs.Cells.{formatCell, setupCells, wiringCell, firstPartner, secondPartner, formatCells, modes, recordCells, placeCells, setupAt}
-use Rattle.table.specs.Step.{Store, put}
+use Rattle.rules.specs.Facts.{Facts}
+use Rattle.rules.specs.declared.Setup.{Setup}
+use Rattle.rules.specs.declared.Format.{Format}
+use Rattle.rules.specs.declared.Wiring.{Wiring}
+use Rattle.rules.specs.declared.Wiring.the-variants.{Unjoined, Virtual}
+use Rattle.rules.specs.declared.Change.the-variants.{Formatted, Answered, Asked}
+use Rattle.rules.specs.Layout.{modeCount, wiringIndex, portIndex, deviceIndex, firstIndex, secondIndex, stateIndex, askedIndex, answeredIndex, formatsIndex}
+use Rattle.rules.specs.Learn.{answeredState, learn}
+use Rattle.rules.specs.Table.{Record, newRecord, wired, onSettings}
+use Rattle.rules.specs.Cells.{formatCell, setupCells, wiringCell, firstPartner, secondPartner, formatCells, modes, recordCells, placeCells, setupFrom}
+use Rattle.table.specs.Stores.{Store, put}
 use Rattle.table.proofs.Stores.{storedIn, set-past}
 
 -- a record with other facts
@@ -24,7 +31,7 @@ with-facts r f = record { port = r .port; facts = f }
 -- ---- wiring
 
 abbrev pub wiring-stores : Wiring → List Store
-wiring-stores y = put 0 (wiringCell y) ∷ put 3 (firstPartner y) ∷ []
+wiring-stores y = put wiringIndex (wiringCell y) ∷ put firstIndex (firstPartner y) ∷ []
 
 pub wiring-block : (r : Record) (y : Wiring) → secondPartner y ≡ secondPartner (r .facts .wiring)
     → storedIn (recordCells r) (wiring-stores y) ≡ recordCells (with-facts r (wired y (r .facts)))
@@ -32,7 +39,7 @@ unfolding recordCells
 wiring-block r y e =
     let f : Facts = r .facts in
     ap
-    (λ (n : ℕ). wiringCell y ∷ r .port ∷ f .device ∷ firstPartner y ∷ n ∷ f .state ∷ (setupCells (f .asked) ++ setupCells (f .answered) ++ formatCells (f .formats) modes))
+    (λ (n : ℕ). wiringCell y ∷ r .port ∷ f .device ∷ firstPartner y ∷ n ∷ f .settings .state ∷ (setupCells (f .settings .asked) ++ setupCells (f .settings .answered) ++ formatCells (f .settings .formats) modes))
     (sym e)
 
 -- ---- a format
@@ -66,40 +73,40 @@ setups-length (some s) none = refl
 setups-length (some s) (some t) = refl
 
 abbrev pub format-stores : ℕ → Format → List Store
-format-stores mode new = put (12 + mode) (formatCell (some new)) ∷ []
+format-stores mode new = put (formatsIndex + mode) (formatCell (some new)) ∷ []
 
 pub format-block : (r : Record) (mode : ℕ) (new : Format) → mode ≤ 15
-    → storedIn (recordCells r) (format-stores mode new) ≡ recordCells (with-facts r (withFormat mode new (r .facts)))
-unfolding recordCells
+    → storedIn (recordCells r) (format-stores mode new) ≡ recordCells (with-facts r (onSettings (learn (Formatted mode new)) (r .facts)))
+unfolding recordCells learn
 format-block r mode new h =
     let f : Facts = r .facts in
-    let front : List ℕ = wiringCell (f .wiring) ∷ r .port ∷ f .device ∷ firstPartner (f .wiring) ∷ secondPartner (f .wiring) ∷ f .state ∷ (setupCells (f .asked) ++ setupCells (f .answered)) in
-    let twelve : length front ≡ 12 = ap (λ (n : ℕ). suc (suc (suc (suc (suc (suc n)))))) (setups-length (f .asked) (f .answered)) in
-    set-past front (formatCells (f .formats) modes) 12 mode (formatCell (some new)) twelve
-    ∙ ap (λ (l : List ℕ). front ++ l) (formats-set 16 0 mode mode (f .formats) new (sym (zero-add mode)) (omega arith))
+    let front : List ℕ = wiringCell (f .wiring) ∷ r .port ∷ f .device ∷ firstPartner (f .wiring) ∷ secondPartner (f .wiring) ∷ f .settings .state ∷ (setupCells (f .settings .asked) ++ setupCells (f .settings .answered)) in
+    let before : length front ≡ formatsIndex = ap (λ (n : ℕ). suc (suc (suc (suc (suc (suc n)))))) (setups-length (f .settings .asked) (f .settings .answered)) in
+    set-past front (formatCells (f .settings .formats) modes) formatsIndex mode (formatCell (some new)) before
+    ∙ ap (λ (l : List ℕ). front ++ l) (formats-set modeCount 0 mode mode (f .settings .formats) new (sym (zero-add mode)) (omega arith))
 
 -- ---- setups
 
 -- a setup in the three cells from one on, and the state
 abbrev pub setup-stores : ℕ → Setup → ℕ → List Store
-setup-stores cell s state = put cell (s .mode + 1) ∷ put (cell + 1) (s .delta) ∷ put (cell + 2) (s .notify) ∷ put 5 state ∷ []
+setup-stores cell s state = put cell (s .mode + 1) ∷ put (cell + 1) (s .delta) ∷ put (cell + 2) (s .notify) ∷ put stateIndex state ∷ []
 
 ask-cells : (w port device a b state m d n : ℕ) (asked answered : Option Setup) (fs : List ℕ)
-    → storedIn (w ∷ port ∷ device ∷ a ∷ b ∷ state ∷ (setupCells asked ++ setupCells answered ++ fs)) (put 6 m ∷ put 7 d ∷ put 8 n ∷ put 5 1 ∷ [])
+    → storedIn (w ∷ port ∷ device ∷ a ∷ b ∷ state ∷ (setupCells asked ++ setupCells answered ++ fs)) (put askedIndex m ∷ put (askedIndex + 1) d ∷ put (askedIndex + 2) n ∷ put stateIndex 1 ∷ [])
     ≡ w ∷ port ∷ device ∷ a ∷ b ∷ 1 ∷ ((m ∷ d ∷ n ∷ []) ++ setupCells answered ++ fs)
 ask-cells w port device a b state m d n none answered fs = refl
 ask-cells w port device a b state m d n (some s) answered fs = refl
 
 pub ask-block : (r : Record) (s : Setup)
-    → storedIn (recordCells r) (setup-stores 6 s 1) ≡ recordCells (with-facts r (withAsk s (r .facts)))
-unfolding recordCells
+    → storedIn (recordCells r) (setup-stores askedIndex s 1) ≡ recordCells (with-facts r (onSettings (learn (Asked s)) (r .facts)))
+unfolding recordCells learn
 ask-block r s =
     let f : Facts = r .facts in
     rw add-one
-    (ask-cells (wiringCell (f .wiring)) (r .port) (f .device) (firstPartner (f .wiring)) (secondPartner (f .wiring)) (f .state) (suc (s .mode)) (s .delta) (s .notify) (f .asked) (f .answered) (formatCells (f .formats) modes))
+    (ask-cells (wiringCell (f .wiring)) (r .port) (f .device) (firstPartner (f .wiring)) (secondPartner (f .wiring)) (f .settings .state) (suc (s .mode)) (s .delta) (s .notify) (f .settings .asked) (f .settings .answered) (formatCells (f .settings .formats) modes))
 
 answer-cells : (w port device a b state m d n new : ℕ) (asked answered : Option Setup) (fs : List ℕ)
-    → storedIn (w ∷ port ∷ device ∷ a ∷ b ∷ state ∷ (setupCells asked ++ setupCells answered ++ fs)) (put 9 m ∷ put 10 d ∷ put 11 n ∷ put 5 new ∷ [])
+    → storedIn (w ∷ port ∷ device ∷ a ∷ b ∷ state ∷ (setupCells asked ++ setupCells answered ++ fs)) (put answeredIndex m ∷ put (answeredIndex + 1) d ∷ put (answeredIndex + 2) n ∷ put stateIndex new ∷ [])
     ≡ w ∷ port ∷ device ∷ a ∷ b ∷ new ∷ (setupCells asked ++ (m ∷ d ∷ n ∷ []) ++ fs)
 answer-cells w port device a b state m d n new none none fs = refl
 answer-cells w port device a b state m d n new none (some s) fs = refl
@@ -107,51 +114,51 @@ answer-cells w port device a b state m d n new (some s) none fs = refl
 answer-cells w port device a b state m d n new (some s) (some t) fs = refl
 
 pub answer-block : (r : Record) (s : Setup)
-    → storedIn (recordCells r) (setup-stores 9 s (answeredState (r .facts .asked) s)) ≡ recordCells (with-facts r (withAnswer s (r .facts)))
-unfolding recordCells
+    → storedIn (recordCells r) (setup-stores answeredIndex s (answeredState (r .facts .settings .asked) s)) ≡ recordCells (with-facts r (onSettings (learn (Answered s)) (r .facts)))
+unfolding recordCells learn
 answer-block r s =
     let f : Facts = r .facts in
     rw add-one
-    (answer-cells (wiringCell (f .wiring)) (r .port) (f .device) (firstPartner (f .wiring)) (secondPartner (f .wiring)) (f .state) (suc (s .mode)) (s .delta) (s .notify) (answeredState (f .asked) s) (f .asked) (f .answered) (formatCells (f .formats) modes))
+    (answer-cells (wiringCell (f .wiring)) (r .port) (f .device) (firstPartner (f .wiring)) (secondPartner (f .wiring)) (f .settings .state) (suc (s .mode)) (s .delta) (s .notify) (answeredState (f .settings .asked) s) (f .settings .asked) (f .settings .answered) (formatCells (f .settings .formats) modes))
 
--- what was asked stands in cells 6, 7 and 8
+-- what was asked
 asked-cells : (w port device a b state : ℕ) (asked : Option Setup) (l fs : List ℕ)
-    → (let c : List ℕ = w ∷ port ∷ device ∷ a ∷ b ∷ state ∷ (setupCells asked ++ l ++ fs) in setupAt (getD c 6 0) (getD c 7 0) (getD c 8 0) ≡ asked)
+    → (let c : List ℕ = w ∷ port ∷ device ∷ a ∷ b ∷ state ∷ (setupCells asked ++ l ++ fs) in setupFrom c askedIndex ≡ asked)
 asked-cells w port device a b state none l fs = refl
 asked-cells w port device a b state (some s) l fs = refl
 
-pub asked-block : (r : Record) → setupAt (getD (recordCells r) 6 0) (getD (recordCells r) 7 0) (getD (recordCells r) 8 0) ≡ r .facts .asked
+pub asked-block : (r : Record) → setupFrom (recordCells r) askedIndex ≡ r .facts .settings .asked
 unfolding recordCells
 asked-block r =
     let f : Facts = r .facts in
-    asked-cells (wiringCell (f .wiring)) (r .port) (f .device) (firstPartner (f .wiring)) (secondPartner (f .wiring)) (f .state) (f .asked) (setupCells (f .answered)) (formatCells (f .formats) modes)
+    asked-cells (wiringCell (f .wiring)) (r .port) (f .device) (firstPartner (f .wiring)) (secondPartner (f .wiring)) (f .settings .state) (f .settings .asked) (setupCells (f .settings .answered)) (formatCells (f .settings .formats) modes)
 
 -- ---- who a record is wired to
 
-pub kind-block : (r : Record) → getD (recordCells r) 0 0 ≡ wiringCell (r .facts .wiring)
+pub kind-block : (r : Record) → getD (recordCells r) wiringIndex 0 ≡ wiringCell (r .facts .wiring)
 unfolding recordCells
 kind-block r = refl
 
-pub first-block : (r : Record) → getD (recordCells r) 3 0 ≡ firstPartner (r .facts .wiring)
+pub first-block : (r : Record) → getD (recordCells r) firstIndex 0 ≡ firstPartner (r .facts .wiring)
 unfolding recordCells
 first-block r = refl
 
-pub second-block : (r : Record) → getD (recordCells r) 4 0 ≡ secondPartner (r .facts .wiring)
+pub second-block : (r : Record) → getD (recordCells r) secondIndex 0 ≡ secondPartner (r .facts .wiring)
 unfolding recordCells
 second-block r = refl
 
 -- ---- a new record in a free place
 
 abbrev pub attach-stores : ℕ → ℕ → List Store
-attach-stores port device = put 0 1 ∷ put 1 port ∷ put 2 device ∷ []
+attach-stores port device = put wiringIndex (wiringCell Unjoined) ∷ put portIndex port ∷ put deviceIndex device ∷ []
 
-pub attach-block : (port device : ℕ) → storedIn (placeCells none) (attach-stores port device) ≡ placeCells (some (newRecord port device unjoined))
+pub attach-block : (port device : ℕ) → storedIn (placeCells none) (attach-stores port device) ≡ placeCells (some (newRecord port device Unjoined))
 unfolding recordCells
 attach-block port device = refl
 
 abbrev pub virtual-stores : ℕ → ℕ → ℕ → ℕ → List Store
-virtual-stores port device a b = put 0 3 ∷ put 1 port ∷ put 2 device ∷ put 3 a ∷ put 4 b ∷ []
+virtual-stores port device a b = put wiringIndex (wiringCell (Virtual a b)) ∷ put portIndex port ∷ put deviceIndex device ∷ put firstIndex a ∷ put secondIndex b ∷ []
 
-pub virtual-block : (port device a b : ℕ) → storedIn (placeCells none) (virtual-stores port device a b) ≡ placeCells (some (newRecord port device (virtual a b)))
+pub virtual-block : (port device a b : ℕ) → storedIn (placeCells none) (virtual-stores port device a b) ≡ placeCells (some (newRecord port device (Virtual a b)))
 unfolding recordCells
 virtual-block port device a b = refl

@@ -13,7 +13,7 @@ use Rattle.protocol.proofs.Tests.{which}
 use Rattle.rules.specs.Facts.{Facts, known}
 use Rattle.rules.specs.Table.{Record, Table, fullTable, viewOfTable, insert, changed, change, remove, freed}
 use Rattle.rules.proofs.Sound.{Distinct}
-use Rattle.table.specs.Place.{placeOf, firstFree}
+use Rattle.soundness.specs.Place.{placeOf, firstFree}
 
 -- ---- the place of a port that is present
 

@@ -4,6 +4,7 @@ pub mod Lifts
 pub mod Lines
 pub mod LogBlocks
 pub mod LogLines
+pub mod Lookups
 pub mod Numbers
 pub mod Offers
 pub mod Queries
@@ -11,7 +12,8 @@ pub mod Records
 pub mod States
 pub mod Steps
 pub mod Stores
+pub mod Tells
 pub mod Unsound
-pub mod Values
+pub mod DatasetAnswers
 pub mod Wirings
 pub mod Zeros

@@ -6,7 +6,10 @@ use mathlib.Core.Bool.{Bool, cond}
 use mathlib.Core.List.{List}
 use mathlib.Core.Option.{Option, none, some}
 use borrow.Author.Tests.{ne-eqb}
-use Rattle.rules.specs.Facts.{Wiring, unjoined, joined, virtual, Facts}
+use Rattle.rules.specs.Layout.{stride}
+use Rattle.rules.specs.Facts.{Facts}
+use Rattle.rules.specs.declared.Wiring.{Wiring}
+use Rattle.rules.specs.declared.Wiring.the-variants.{Unjoined, Joined, Virtual}
 use Rattle.rules.specs.Table.{Record, Table, viewOfTable, insert, change, remove, wired, dissolve}
 use Rattle.rules.specs.Cells.{secondPartner, recordCells, placeCells, cellsOf}
 use Rattle.rules.proofs.Lookup.{mapFacts, view-change}
@@ -14,8 +17,8 @@ use Rattle.rules.proofs.Sound.{wiring?, wiredIn, Distinct, Loose, Sound, seen}
 use Rattle.rules.proofs.Pairs.{port-first, port-second}
 use Rattle.rules.proofs.Keep.{loose-change}
 use Rattle.rules.proofs.Apply.{fit-wired, loose-members}
-use Rattle.table.specs.Place.{placeOf, firstFree}
-use Rattle.table.specs.Step.{Store, stored, zeroed}
+use Rattle.soundness.specs.Place.{placeOf, firstFree}
+use Rattle.table.specs.Stores.{Store, stored, zeroed}
 use Rattle.table.proofs.Stores.{storedIn, Within, place-stores, place-zeroed}
 use Rattle.table.proofs.Blocks.{wiring-stores, wiring-block}
 use Rattle.table.proofs.Changes.{stands, change-place, remove-place, insert-place, free-none, place-change}
@@ -29,7 +32,7 @@ change-cells t port g f s d e h block =
     place-stores t (placeOf t port) s (some (record { port = port; facts = g f })) h (ap (λ (p : Option Record). storedIn (placeCells p) s) (k .here) ∙ block)
     ∙ sym (ap cellsOf (change-place t port g f d e))
 
-pub remove-cells : (t : Table) (port : ℕ) (f : Facts) → Distinct t → viewOfTable t port ≡ some f → zeroed (cellsOf t) (28 * placeOf t port) 28 ≡ cellsOf (remove port t)
+pub remove-cells : (t : Table) (port : ℕ) (f : Facts) → Distinct t → viewOfTable t port ≡ some f → zeroed (cellsOf t) (stride * placeOf t port) stride ≡ cellsOf (remove port t)
 remove-cells t port f d e = place-zeroed t (placeOf t port) (stands t port f e .below) ∙ sym (ap cellsOf (remove-place t port f d e))
 
 pub insert-cells : (t : Table) (new : Record) (s : List Store) → Within s → storedIn (placeCells none) s ≡ placeCells (some new) → stored (cellsOf t) (firstFree t) s ≡ cellsOf (insert new t)
@@ -59,14 +62,14 @@ pair-cells t a b y z l one two ab same =
     ∙ wire-cells u b y z (loose-change a (wired y) t l (fit-wired a y) .distinct) (ap wiring? (view-kept t a b y ab) ∙ two) same
 
 -- a virtual port dissolved
-pub dissolve-cells : (t : Table) (p a b : ℕ) → Sound t → wiredIn t p ≡ some (virtual a b)
-    → zeroed (stored (stored (cellsOf t) (placeOf t a) (wiring-stores unjoined)) (placeOf t b) (wiring-stores unjoined)) (28 * placeOf t p) 28 ≡ cellsOf (dissolve p a b t)
+pub dissolve-cells : (t : Table) (p a b : ℕ) → Sound t → wiredIn t p ≡ some (Virtual a b)
+    → zeroed (stored (stored (cellsOf t) (placeOf t a) (wiring-stores Unjoined)) (placeOf t b) (wiring-stores Unjoined)) (stride * placeOf t p) stride ≡ cellsOf (dissolve p a b t)
 dissolve-cells t p a b s e =
-    let u : Table = change a (wired unjoined) t in
-    let v : Table = change b (wired unjoined) u in
-    let k = seen (viewOfTable t p) (virtual a b) e in
+    let u : Table = change a (wired Unjoined) t in
+    let v : Table = change b (wired Unjoined) u in
+    let k = seen (viewOfTable t p) (Virtual a b) e in
     let pa : a ≡ p → ⊥ = λ (i : a ≡ p). port-first (wiredIn t) (s .pairs) p a b e (sym i) in
     let pb : b ≡ p → ⊥ = λ (i : b ≡ p). port-second (wiredIn t) (s .pairs) p a b e (sym i) in
-    let place : placeOf t p ≡ placeOf v p = sym (place-change u b (wired unjoined) p ∙ place-change t a (wired unjoined) p) in
-    (λ i. zeroed (pair-cells t a b unjoined (joined p) (s .loose) (s .pairs .first p a b e) (s .pairs .second p a b e) (s .pairs .apart p a b e) refl i) (28 * place i) 28)
-    ∙ remove-cells v p (k .facts) (loose-members t a b unjoined (s .loose) .distinct) (view-kept u b p unjoined pb ∙ view-kept t a p unjoined pa ∙ k .is)
+    let place : placeOf t p ≡ placeOf v p = sym (place-change u b (wired Unjoined) p ∙ place-change t a (wired Unjoined) p) in
+    (λ i. zeroed (pair-cells t a b Unjoined (Joined p) (s .loose) (s .pairs .first p a b e) (s .pairs .second p a b e) (s .pairs .apart p a b e) refl i) (stride * place i) stride)
+    ∙ remove-cells v p (k .facts) (loose-members t a b Unjoined (s .loose) .distinct) (view-kept u b p Unjoined pb ∙ view-kept t a p Unjoined pa ∙ k .is)

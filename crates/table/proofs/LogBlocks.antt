@@ -14,14 +14,15 @@ use Rattle.rules.specs.Cells.{sound}
 use Rattle.rules.specs.Offer.{cellsAfter}
 use Rattle.rules.proofs.Laws.{step-keeps-sound}
 use Rattle.log.specs.Decimal.{lineText}
-use Rattle.log.specs.Record.{entryOf, malformed, messageIn}
-use Rattle.log.specs.Line.{Line, recordLine, recordCells, refusalOf, numbersOf}
+use Rattle.log.specs.Record.{recordSize, entryOf, malformed, messageIn}
+use Rattle.log.specs.Line.{Line, recordLine, cellsAfterRecord, refusalOf, numbersOf}
 use Rattle.log.specs.Laid.{over}
 use Rattle.log.specs.Cutting.{Run, worked, printed}
 use Rattle.log.specs.Block.{lineRoom, mostLines, goesOn, recordsIn, blockRecords}
 use Rattle.log.proofs.Laying.{over-nothing, over-length, over-over}
 use Rattle.log.proofs.OneMore.{nextRecord, nextLine, cells-next, lines-next, refused-next, text-next, takes-more, takes-none, run-next, printed-one}
-use Rattle.table.specs.LogBlock.{BlockAnswer, done, doneBy, blockSays, blockCells, blockText}
+use Rattle.rules.specs.Answer.{Answer, refused, accepted}
+use Rattle.table.specs.BlockAnswer.{Progress, progress, blockAnswer, blockCells, blockText}
 use Rattle.table.specs.LogLine.{PrintedAs}
 use Rattle.table.proofs.LogLines.{message-bytes}
 
@@ -39,18 +40,18 @@ fails-3 x y z w c d e = rw (c, d, e)
 pub decides-4 : (x y z w v : Bool) → x ≡ true → y ≡ true → z ≡ true → v ≡ w → v ≡ (x && y && z && w)
 decides-4 x y z w v b c d e = rw (b, c, d) e
 
-pub is-most : (n : ℕ) → n ≡ 18446744073709551615 → ltb n mostLines ≡ false
+pub is-most : (n : ℕ) → n ≡ mostLines → ltb n mostLines ≡ false
 is-most n e = le-ltb n mostLines (omega arith)
 
-pub not-most : (n : ℕ) → n < 18446744073709551616 → (n ≡ 18446744073709551615 → ⊥) → ltb n mostLines ≡ true
+pub not-most : (n : ℕ) → n < suc mostLines → (n ≡ mostLines → ⊥) → ltb n mostLines ≡ true
 not-most n h e = lt-ltb n mostLines (omega arith)
 
-pub by-most : (n : ℕ) → n < 18446744073709551616 → not (eqb n 18446744073709551615) ≡ ltb n mostLines
+pub by-most : (n : ℕ) → n < suc mostLines → not (eqb n mostLines) ≡ ltb n mostLines
 by-most n h =
     ⊎-elim
-    (λ (x : eqb n 18446744073709551615 ≡ true). ap not x ∙ sym (is-most n (eqb-true n 18446744073709551615 x)))
-    (λ (x : eqb n 18446744073709551615 ≡ false). ap not x ∙ sym (not-most n h (eqb-false n 18446744073709551615 x)))
-    (which (eqb n 18446744073709551615))
+    (λ (x : eqb n mostLines ≡ true). ap not x ∙ sym (is-most n (eqb-true n mostLines x)))
+    (λ (x : eqb n mostLines ≡ false). ap not x ∙ sym (not-most n h (eqb-false n mostLines x)))
+    (which (eqb n mostLines))
 
 -- ---- the records that were worked through
 
@@ -63,7 +64,7 @@ pub record Working (r : Run) (out₀ table out : List ℕ) (taken written count 
   pub room : written ≤ length out₀
   pub lines : count ≡ worked 128 through r .lines
   pub refused : bad ≡ worked 128 through r .refused
-  pub took : taken ≡ through * 136
+  pub took : taken ≡ through * recordSize 128
   pub there : taken ≤ length (r .rest)
   pub left : blockRecords 128 r (length out₀) ≡ through + recordsIn 128 (length (r .rest) - through) (worked 128 through r) (length out₀ - written)
 
@@ -104,34 +105,34 @@ module _ (r : Run) (out₀ table out : List ℕ) (taken written count bad : ℕ)
   rest-size : length (run .rest) ≡ length (r .rest) - taken
   rest-size = ap length rest-is ∙ length-drop taken (r .rest)
 
-  pub goes-as : (leb 136 (length (r .rest) - taken) && leb lineRoom (length out - written) && ltb count mostLines && ltb bad mostLines) ≡ goesOn 128 run (length out₀ - written)
-  goes-as = λ i. leb 136 (sym rest-size i) && leb lineRoom (same-size i - written) && ltb (k .lines i) mostLines && ltb (k .refused i) mostLines
+  pub goes-as : (leb (recordSize 128) (length (r .rest) - taken) && leb lineRoom (length out - written) && ltb count mostLines && ltb bad mostLines) ≡ goesOn 128 run (length out₀ - written)
+  goes-as = λ i. leb (recordSize 128) (sym rest-size i) && leb lineRoom (same-size i - written) && ltb (k .lines i) mostLines && ltb (k .refused i) mostLines
 
-  module _ (again : (leb 136 (length (r .rest) - taken) && leb lineRoom (length out - written) && ltb count mostLines && ltb bad mostLines) ≡ true) where
-    tests : (leb 136 (length (r .rest) - taken) ≡ true) × (leb lineRoom (length out - written) ≡ true) × (ltb count mostLines ≡ true) × (ltb bad mostLines ≡ true)
+  module _ (again : (leb (recordSize 128) (length (r .rest) - taken) && leb lineRoom (length out - written) && ltb count mostLines && ltb bad mostLines) ≡ true) where
+    tests : (leb (recordSize 128) (length (r .rest) - taken) ≡ true) × (leb lineRoom (length out - written) ≡ true) × (ltb count mostLines ≡ true) × (ltb bad mostLines ≡ true)
     tests =
-        let front = and-left (leb 136 (length (r .rest) - taken) && leb lineRoom (length out - written) && ltb count mostLines) (ltb bad mostLines) again in
-        let two = and-left (leb 136 (length (r .rest) - taken) && leb lineRoom (length out - written)) (ltb count mostLines) front in
-        (and-left (leb 136 (length (r .rest) - taken)) (leb lineRoom (length out - written)) two, and-right (leb 136 (length (r .rest) - taken)) (leb lineRoom (length out - written)) two, and-right (leb 136 (length (r .rest) - taken) && leb lineRoom (length out - written)) (ltb count mostLines) front, and-right (leb 136 (length (r .rest) - taken) && leb lineRoom (length out - written) && ltb count mostLines) (ltb bad mostLines) again)
+        let front = and-left (leb (recordSize 128) (length (r .rest) - taken) && leb lineRoom (length out - written) && ltb count mostLines) (ltb bad mostLines) again in
+        let two = and-left (leb (recordSize 128) (length (r .rest) - taken) && leb lineRoom (length out - written)) (ltb count mostLines) front in
+        (and-left (leb (recordSize 128) (length (r .rest) - taken)) (leb lineRoom (length out - written)) two, and-right (leb (recordSize 128) (length (r .rest) - taken)) (leb lineRoom (length out - written)) two, and-right (leb (recordSize 128) (length (r .rest) - taken) && leb lineRoom (length out - written)) (ltb count mostLines) front, and-right (leb (recordSize 128) (length (r .rest) - taken) && leb lineRoom (length out - written) && ltb count mostLines) (ltb bad mostLines) again)
 
-    pub record-there : taken + 136 ≤ length (r .rest)
-    record-there = let h : 136 ≤ length (r .rest) - taken = leb-true 136 (length (r .rest) - taken) (tests .0) in omega arith
+    pub record-there : taken + recordSize 128 ≤ length (r .rest)
+    record-there = let h : recordSize 128 ≤ length (r .rest) - taken = leb-true (recordSize 128) (length (r .rest) - taken) (tests .0) in omega arith
 
-    pub room-there : written + 448 ≤ length out
+    pub room-there : written + lineRoom ≤ length out
     room-there = let h : lineRoom ≤ length out - written = leb-true lineRoom (length out - written) (tests .1) in omega arith
 
-    pub count-fits : count < 18446744073709551615
+    pub count-fits : count < mostLines
     count-fits = ltb-true count mostLines (tests .2)
 
-    pub bad-fits : bad < 18446744073709551615
+    pub bad-fits : bad < mostLines
     bad-fits = ltb-true bad mostLines (tests .3)
 
     -- the next record
-    pub record-is : take 136 (drop taken (r .rest)) ≡ nextRecord 128 r (k .through)
-    record-is = ap (take 136) (sym rest-is)
+    pub record-is : take (recordSize 128) (drop taken (r .rest)) ≡ nextRecord 128 r (k .through)
+    record-is = ap (take (recordSize 128)) (sym rest-is)
 
-    pub working-next : (table' out' : List ℕ) (end counted : ℕ) (s : List ℕ) → s ≡ nextRecord 128 r (k .through) → PrintedAs out out' written (count + 1) (recordLine 128 table s) end counted → table' ≡ recordCells 128 table s → sound table' ≡ true
-        → Working r out₀ table' out' (taken + 136) end (count + 1) (bad + counted)
+    pub working-next : (table' out' : List ℕ) (end counted : ℕ) (s : List ℕ) → s ≡ nextRecord 128 r (k .through) → PrintedAs out out' written (count + 1) (recordLine 128 table s) end counted → table' ≡ cellsAfterRecord 128 table s → sound table' ≡ true
+        → Working r out₀ table' out' (taken + recordSize 128) end (count + 1) (bad + counted)
     working-next table' out' end counted s is p c g =
         let d : ℕ = k .through in
         let line-is : recordLine 128 table s ≡ nextLine 128 r d = λ i. recordLine 128 (k .cells i) (is i) in
@@ -141,7 +142,7 @@ module _ (r : Run) (out₀ table out : List ℕ) (taken written count bad : ℕ)
         let whole-text : printed 128 (suc d) r ≡ printed 128 d r ++ line = text-next 128 r d ∙ ap (λ (t : List ℕ). printed 128 d r ++ t) numbered-same in
         let whole-length : length (printed 128 (suc d) r) ≡ length (printed 128 d r) + length line = ap length whole-text ∙ length-append (printed 128 d r) line in
         let one-length : length (printed 128 1 (worked 128 d r)) ≡ length line = ap length (printed-one 128 r d ∙ numbered-same) in
-        let size : d * 136 + 136 ≡ suc d * 136 = omega arith in
+        let size : d * recordSize 128 + recordSize 128 ≡ suc d * recordSize 128 = omega arith in
         let at-is : written ≡ 0 + length (printed 128 d r) = omega (arith, k .ends) in
         let more-left : length (r .rest) - d ≡ suc (length (r .rest) - suc d) = omega (arith, k .took, record-there) in
         let takes : recordsIn 128 (length (r .rest) - d) (worked 128 d r) (length out₀ - written) ≡ suc (recordsIn 128 (length (r .rest) - suc d) (worked 128 (suc d) r) (length out₀ - end)) =
@@ -152,7 +153,7 @@ module _ (r : Run) (out₀ table out : List ℕ) (taken written count bad : ℕ)
         in
         record {
           through = suc d;
-          cells = c ∙ (λ i. recordCells 128 (k .cells i) (is i)) ∙ sym (cells-next 128 r d);
+          cells = c ∙ (λ i. cellsAfterRecord 128 (k .cells i) (is i)) ∙ sym (cells-next 128 r d);
           good = g;
           text =
               q .text
@@ -169,7 +170,7 @@ module _ (r : Run) (out₀ table out : List ℕ) (taken written count bad : ℕ)
         }
 
   -- at the end
-  pub all-done : (leb 136 (length (r .rest) - taken) && leb lineRoom (length out - written) && ltb count mostLines && ltb bad mostLines) ≡ false → k .through ≡ blockRecords 128 r (length out₀)
+  pub all-done : (leb (recordSize 128) (length (r .rest) - taken) && leb lineRoom (length out - written) && ltb count mostLines && ltb bad mostLines) ≡ false → k .through ≡ blockRecords 128 r (length out₀)
   all-done stops =
       let none-more : recordsIn 128 (length (r .rest) - k .through) run (length out₀ - written) ≡ 0 = takes-none 128 run (length (r .rest) - k .through) (length out₀ - written) (sym goes-as ∙ stops) in
       omega (arith, k .left, none-more)
@@ -177,15 +178,15 @@ module _ (r : Run) (out₀ table out : List ℕ) (taken written count bad : ℕ)
   abbrev total : ℕ
   total = blockRecords 128 r (length out₀)
 
-  pub finished : (leb 136 (length (r .rest) - taken) && leb lineRoom (length out - written) && ltb count mostLines && ltb bad mostLines) ≡ false
-      → (done taken written count bad ≡ doneBy 128 r total) × (table ≡ worked 128 total r .cells) × (out ≡ over out₀ 0 (printed 128 total r)) × ((taken ≤ length (r .rest)) × (written ≤ length out₀))
+  pub finished : (leb (recordSize 128) (length (r .rest) - taken) && leb lineRoom (length out - written) && ltb count mostLines && ltb bad mostLines) ≡ false
+      → (record { taken = taken; written = written; lines = count; refused = bad } ≡ progress 128 r total) × (table ≡ worked 128 total r .cells) × (out ≡ over out₀ 0 (printed 128 total r)) × ((taken ≤ length (r .rest)) × (written ≤ length out₀))
   finished stops =
       let is : k .through ≡ total = all-done stops in
-      ((λ i. done (k .took i) (k .ends i) (k .lines i) (k .refused i)) ∙ ap (doneBy 128 r) is, k .cells ∙ ap (λ (n : ℕ). worked 128 n r .cells) is, k .text ∙ ap (λ (n : ℕ). over out₀ 0 (printed 128 n r)) is, (k .there, k .room))
+      ((λ i. record { taken = k .took i; written = k .ends i; lines = k .lines i; refused = k .refused i }) ∙ ap (progress 128 r) is, k .cells ∙ ap (λ (n : ℕ). worked 128 n r .cells) is, k .text ∙ ap (λ (n : ℕ). over out₀ 0 (printed 128 n r)) is, (k .there, k .room))
 
 -- every record keeps a sound table sound
-pub record-keeps-sound : (cells s : List ℕ) → ((n : ℕ) → getD s n 0 < 256) → sound cells ≡ true → sound (recordCells 128 cells s) ≡ true
-unfolding recordCells
+pub record-keeps-sound : (cells s : List ℕ) → ((n : ℕ) → getD s n 0 < 256) → sound cells ≡ true → sound (cellsAfterRecord 128 cells s) ≡ true
+unfolding cellsAfterRecord
 record-keeps-sound cells s bytes good = go (malformed 128 s)
   where
     go : (b : Bool) → sound (cond b cells (cellsAfter cells (entryOf 128 s))) ≡ true
@@ -217,10 +218,10 @@ module _ (r : Run) (out : List ℕ) where
   abbrev taken-there : ℕ
   taken-there = blockRecords 128 r (length out)
 
-  pub sound-block : sound (r .cells) ≡ true → (blockSays 128 r (length out) ≡ doneBy 128 r taken-there) × (blockCells 128 r (length out) ≡ worked 128 taken-there r .cells) × (blockText 128 r out ≡ over out 0 (printed 128 taken-there r))
-  unfolding blockSays blockCells blockText
+  pub sound-block : sound (r .cells) ≡ true → (blockAnswer 128 r (length out) ≡ accepted (progress 128 r taken-there)) × (blockCells 128 r (length out) ≡ worked 128 taken-there r .cells) × (blockText 128 r out ≡ over out 0 (printed 128 taken-there r))
+  unfolding blockAnswer blockCells blockText
   sound-block s = (rw s, rw s, rw s)
 
-  pub unsound-block : sound (r .cells) ≡ false → (blockSays 128 r (length out) ≡ BlockAnswer.refused 9 0) × (blockCells 128 r (length out) ≡ r .cells) × (blockText 128 r out ≡ out)
-  unfolding blockSays blockCells blockText
+  pub unsound-block : sound (r .cells) ≡ false → (blockAnswer 128 r (length out) ≡ refused 9 0) × (blockCells 128 r (length out) ≡ r .cells) × (blockText 128 r out ≡ out)
+  unfolding blockAnswer blockCells blockText
   unsound-block s = (rw s, rw s, rw s)

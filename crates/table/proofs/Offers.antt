@@ -1,139 +1,120 @@
 -- Offering a message: what judging says of the table, what changes, and what is answered.
-use Prim.Native.Nat.{ℕ, suc, _≤_, _<_}
+use Prim.Native.Nat.{ℕ, suc, _<_}
 use mathlib.Core.Path.{_≡_, refl, sym, _∙_, ap}
 use mathlib.Core.Bool.{Bool, true, false, cond}
 use mathlib.Core.List.{List, [], _∷_}
-use mathlib.Core.Option.{some}
 use types.Run.{OneOf, miss}
 use denote.Enum.Declared.{tagOf}
-use borrow.Author.Tests.{ne-eqb, leb-true}
-use lib.Dec.{leb}
+use borrow.Author.Tests.{ne-eqb}
 use lib.ListN.{getD, length, drop}
 use Rattle.protocol.specs.Number.{Bytes}
-use Rattle.protocol.specs.Decode.{Answer, accepted, decode, openOf}
 use Rattle.protocol.specs.Decode as Decode
+use Rattle.protocol.specs.Decode.{decode, openOf}
 use Rattle.protocol.specs.Answer.{formOf, valuesOf}
 use Rattle.protocol.specs.declared.Message.{Message}
 use Rattle.protocol.specs.declared.Way.{Way}
 use Rattle.protocol.proofs.Answers.{message-back}
-use Rattle.protocol.proofs.Tests.{and-left}
-use Rattle.rules.specs.Effect as Effect'
+use Rattle.rules.specs.Answer.{Answer, refused, accepted, unlessRefused}
 use Rattle.rules.specs.Effect.{effectOf}
-use Rattle.rules.specs.Facts.{Format, known}
-use Rattle.rules.specs.Judge.{judge, goodPair}
-use Rattle.rules.specs.Ranges.{effectFits}
-use Rattle.rules.specs.Table.{viewOfTable, modesOfTable, fullTable, apply}
-use Rattle.rules.specs.WellFormed.{formatFits}
+use Rattle.rules.specs.Facts.{known}
+use Rattle.rules.specs.declared.Change.{Change}
+use Rattle.rules.specs.declared.Effect.{Effect}
+use Rattle.rules.specs.declared.Effect.the-variants as Case
+use Rattle.rules.specs.Judge.{judge, pairTest}
+use Rattle.rules.specs.Ranges.{changeFits, effectFits}
+use Rattle.rules.specs.Table.{fullTable, apply}
 use Rattle.rules.specs.Cells.{cellsOf, tableAt, sound}
-use Rattle.rules.specs.Offer.{Entry, Verdict, refused, accepts, verdict, judgeAnswer, judgeEntry, offerCells, appliedTo, cellsAfter, viewOfCells}
+use Rattle.rules.specs.Offer.{Entry, judgeReading, judgeEntry, portsOfCells, offerByCells, appliedTo, cellsAfter, viewOfCells}
 use Rattle.rules.proofs.CellsSound.{sound-is}
+use Rattle.rules.proofs.Effect.{the-type}
 use Rattle.rules.proofs.Kept.{fresh-by, virtual-by, wanted}
 use Rattle.rules.proofs.OpenBytes.{open-alike}
 use Rattle.rules.proofs.Ranges.{effect-fits}
-use Rattle.effects.specs.declared.Effect.{Effect}
-use Rattle.effects.specs.declared.Effect.the-variants as Case
-use Rattle.effects.specs.Told.{told}
-use Rattle.effects.proofs.Effect.{the-type}
-use Rattle.table.specs.Judged.{judgedBy, verdictBy}
+use Rattle.table.specs.Judged.{refusalBy, judgedBy}
 
 -- ---- what judging says of the table
 
-module _ (cells : List ℕ) (count : ℕ) (e : Effect) (good : judgedBy cells e count ≡ 0) where
-  by : (case : Effect) → e ≡ case → judgedBy cells case count ≡ 0
-  by case is = sym (ap (λ (x : Effect). judgedBy cells x count) is) ∙ good
+module _ (cells : List ℕ) (count : ℕ) (e : Effect) (good : refusalBy cells e count ≡ 0) where
+  by : (case : Effect) → e ≡ case → refusalBy cells case count ≡ 0
+  by case is = sym (ap (λ (x : Effect). refusalBy cells x count) is) ∙ good
+
+  pub tell-ready : (port : ℕ) (c : Change) → e ≡ Case.ToPort port c → known (viewOfCells cells port) ≡ true
+  unfolding judge
+  tell-ready port c is = wanted (viewOfCells cells port) (by (Case.ToPort port c) is)
 
   pub attach-ready : (port device : ℕ) → e ≡ Case.Attach port device → fullTable (tableAt cells) ≡ false
-  unfolding judge told
+  unfolding judge
   attach-ready port device is = fresh-by (viewOfCells cells port) (fullTable (tableAt cells)) (by (Case.Attach port device) is) .1
 
-  pub virtual-ready : (port device a b : ℕ) → e ≡ Case.AttachVirtual port device a b → (fullTable (tableAt cells) ≡ false) × (goodPair (viewOfCells cells) a b ≡ true)
-  unfolding judge told
+  pub virtual-ready : (port device a b : ℕ) → e ≡ Case.AttachVirtual port device a b → (fullTable (tableAt cells) ≡ false) × (pairTest (viewOfCells cells) a b ≡ true)
+  unfolding judge
   virtual-ready port device a b is =
-      let k = virtual-by (viewOfCells cells port) (goodPair (viewOfCells cells) a b) (fullTable (tableAt cells)) (by (Case.AttachVirtual port device a b) is) in
+      let k = virtual-by (viewOfCells cells port) (pairTest (viewOfCells cells) a b) (fullTable (tableAt cells)) (by (Case.AttachVirtual port device a b) is) in
       (k .2, k .1)
 
   pub detach-ready : (port : ℕ) → e ≡ Case.Detach port → known (viewOfCells cells port) ≡ true
-  unfolding judge told
+  unfolding judge
   detach-ready port is = wanted (viewOfCells cells port) (by (Case.Detach port) is)
 
-  pub format-ready : (port mode n k f d : ℕ) → e ≡ Case.SetFormat port mode n k f d → known (viewOfCells cells port) ≡ true
-  unfolding judge told
-  format-ready port mode n k f d is = wanted (viewOfCells cells port) (by (Case.SetFormat port mode n k f d) is)
-
-  pub answer-ready : (port m d n : ℕ) → e ≡ Case.Answer port m d n → known (viewOfCells cells port) ≡ true
-  unfolding judge told
-  answer-ready port m d n is = wanted (viewOfCells cells port) (by (Case.Answer port m d n) is)
-
-  pub ask-ready : (port m d n : ℕ) → e ≡ Case.Ask port m d n → known (viewOfCells cells port) ≡ true
-  unfolding judge told
-  ask-ready port m d n is = wanted (viewOfCells cells port) (by (Case.Ask port m d n) is)
-
--- a format's mode is within its list
-pub mode-ready : (e : Effect) → effectFits (told e) ≡ true → (port mode n k f d : ℕ) → e ≡ Case.SetFormat port mode n k f d → mode ≤ 15
-unfolding told
-mode-ready e fits port mode n k f d is =
-    let new : Format = record { datasets = n; kind = k; figures = f; decimals = d } in
-    let both : effectFits (told (Case.SetFormat port mode n k f d)) ≡ true = sym (ap (λ (x : Effect). effectFits (told x)) is) ∙ fits in
-    leb-true mode 15 (and-left (leb mode 15) (formatFits (some new)) both)
+-- what a port is told is within its lists
+pub change-ready : (e : Effect) → effectFits e ≡ true → (port : ℕ) (c : Change) → e ≡ Case.ToPort port c → changeFits c ≡ true
+change-ready e fits port c is = sym (ap effectFits is) ∙ fits
 
 -- ---- what changes
 
-pub changed-as : (cells out : List ℕ) (e case : Effect) → e ≡ case → out ≡ cellsOf (apply (told case) (tableAt cells)) → out ≡ cellsOf (apply (told e) (tableAt cells))
-changed-as cells out e case is k = k ∙ sym (ap (λ (x : Effect). cellsOf (apply (told x) (tableAt cells))) is)
+pub changed-as : (cells out : List ℕ) (e case : Effect) → e ≡ case → out ≡ cellsOf (apply case (tableAt cells)) → out ≡ cellsOf (apply e (tableAt cells))
+changed-as cells out e case is k = k ∙ sym (ap (λ (x : Effect). cellsOf (apply x (tableAt cells))) is)
 
+-- the effects by which nothing changes, by their tags
 abbrev others : List ℕ
-others = 0 ∷ 1 ∷ 8 ∷ 9 ∷ 10 ∷ []
+others = 0 ∷ 5 ∷ 6 ∷ 7 ∷ []
 
-stays : (cells : List ℕ) (e : Effect) → OneOf others (tagOf the-type e) → apply (told e) (tableAt cells) ≡ tableAt cells
-unfolding apply told
+stays : (cells : List ℕ) (e : Effect) → OneOf others (tagOf the-type e) → apply e (tableAt cells) ≡ tableAt cells
+unfolding apply
 stays cells Case.Nothing t = refl
-stays cells (Case.Names p) t = refl
+stays cells (Case.ToPort p c) t = absurd (miss others 1 tt t)
 stays cells (Case.Attach p d) t = absurd (miss others 2 tt t)
 stays cells (Case.AttachVirtual p d a b) t = absurd (miss others 3 tt t)
 stays cells (Case.Detach p) t = absurd (miss others 4 tt t)
-stays cells (Case.SetFormat p m n k f d) t = absurd (miss others 5 tt t)
-stays cells (Case.Answer p m d n) t = absurd (miss others 6 tt t)
-stays cells (Case.Ask p m d n) t = absurd (miss others 7 tt t)
 stays cells (Case.Value p) t = refl
 stays cells (Case.Disconnect p) t = refl
 stays cells (Case.Connect a b) t = refl
-stays cells Case.Empty t = absurd (miss others 11 tt t)
+stays cells Case.Empty t = absurd (miss others 8 tt t)
 
-pub unchanged : (cells : List ℕ) (e : Effect) → sound cells ≡ true → OneOf others (tagOf the-type e) → cells ≡ cellsOf (apply (told e) (tableAt cells))
+pub unchanged : (cells : List ℕ) (e : Effect) → sound cells ≡ true → OneOf others (tagOf the-type e) → cells ≡ cellsOf (apply e (tableAt cells))
 unchanged cells e s t = sound-is cells s .0 ∙ sym (ap cellsOf (stays cells e t))
 
 -- ---- what is answered
 
-pub refused-by : (n j : ℕ) (e : Effect'.Effect) → n ≡ j → (n ≡ 0 → ⊥) → verdict j e ≡ refused n 0
-refused-by n j e is used = ap (λ (k : ℕ). verdict k e) (sym is) ∙ ap (λ (b : Bool). cond b (accepts e) (refused n 0)) (ne-eqb n 0 used)
+module _ {A : Type 0} (n j : ℕ) (a : Answer A) (is : n ≡ j) where
+  pub refused-by : (n ≡ 0 → ⊥) → unlessRefused j a ≡ refused n 0
+  refused-by used = ap (λ (k : ℕ). unlessRefused k a) (sym is) ∙ ap (λ (b : Bool). cond b a (refused n 0)) (ne-eqb n 0 used)
 
-pub accepted-by : (n j : ℕ) (e : Effect'.Effect) → n ≡ j → n ≡ 0 → verdict j e ≡ accepts e
-accepted-by n j e is zero-is = ap (λ (k : ℕ). verdict k e) (sym is ∙ zero-is)
+  pub accepted-by : n ≡ 0 → unlessRefused j a ≡ a
+  accepted-by zero-is = ap (λ (k : ℕ). unlessRefused k a) (sym is ∙ zero-is)
 
 -- ---- any message
 
-offer-sound : (cells : List ℕ) (e : Entry) → sound cells ≡ true → offerCells cells e ≡ judgeEntry (viewOfTable (tableAt cells)) (modesOfTable (tableAt cells)) (fullTable (tableAt cells)) e
-unfolding offerCells
+offer-sound : (cells : List ℕ) (e : Entry) → sound cells ≡ true → offerByCells cells e ≡ judgeEntry (portsOfCells cells) e
+unfolding offerByCells
 offer-sound cells e s = rw s
 
 module _ (cells s : List ℕ) (way : Way) (good : sound cells ≡ true) where
-  pub offered-unread : (n place : ℕ) → decode way s ≡ Decode.refused n place → offerCells cells (record { way = way; bytes = s }) ≡ refused n place
+  pub offered-unread : (n place : ℕ) → decode way s ≡ Decode.refused n place → offerByCells cells (record { way = way; bytes = s }) ≡ refused n place
   unfolding judgeEntry
-  offered-unread n place e = offer-sound cells (record { way = way; bytes = s }) good ∙ ap (judgeAnswer (viewOfTable (tableAt cells)) (modesOfTable (tableAt cells)) (fullTable (tableAt cells)) s) e
+  offered-unread n place e = offer-sound cells (record { way = way; bytes = s }) good ∙ ap (judgeReading (portsOfCells cells) s) e
 
-  pub offered-message : (m : Message) (e : Effect) (tail : List ℕ) → decode way s ≡ accepted (formOf m) (valuesOf m) → told e ≡ effectOf m → tail ≡ drop 4 s → offerCells cells (record { way = way; bytes = s }) ≡ verdictBy cells e (length tail)
+  pub offered-message : (m : Message) (e : Effect) (tail : List ℕ) → decode way s ≡ Decode.accepted (formOf m) (valuesOf m) → e ≡ effectOf m → tail ≡ drop 4 s → offerByCells cells (record { way = way; bytes = s }) ≡ judgedBy cells e (length tail)
   unfolding judgeEntry
   offered-message m e tail read is rest =
-      let view = viewOfTable (tableAt cells) in
-      let modes = modesOfTable (tableAt cells) in
-      let full = fullTable (tableAt cells) in
+      let ports = portsOfCells cells in
       offer-sound cells (record { way = way; bytes = s }) good
-      ∙ ap (judgeAnswer view modes full s) read
-      ∙ ap (λ (x : Message). verdict (judge view modes full (effectOf x) (length (openOf s (accepted (formOf m) (valuesOf m))))) (effectOf x)) (message-back m)
-      ∙ ap (λ (n : ℕ). verdict n (effectOf m)) (open-alike m s .judges view modes full)
-      ∙ (λ i. verdict (judge view modes full (sym is i) (length (sym rest i))) (sym is i))
+      ∙ ap (judgeReading ports s) read
+      ∙ ap (λ (x : Message). unlessRefused (judge ports (effectOf x) (length (openOf s (Decode.accepted (formOf m) (valuesOf m))))) (accepted (effectOf x))) (message-back m)
+      ∙ ap (λ (n : ℕ). unlessRefused n (accepted (effectOf m))) (open-alike m s .judges ports)
+      ∙ (λ i. unlessRefused (judge ports (sym is i) (length (sym rest i))) (accepted (sym is i)))
 
-  pub cells-by : (v : Verdict) → offerCells cells (record { way = way; bytes = s }) ≡ v → cellsAfter cells (record { way = way; bytes = s }) ≡ appliedTo cells v
+  pub cells-by : (v : Answer Effect) → offerByCells cells (record { way = way; bytes = s }) ≡ v → cellsAfter cells (record { way = way; bytes = s }) ≡ appliedTo cells v
   unfolding cellsAfter
   cells-by v e = ap (appliedTo cells) e
 
@@ -142,5 +123,5 @@ all-bytes [] h = tt
 all-bytes (b ∷ bs) h = (h 0, all-bytes bs (λ (k : ℕ). h (suc k)))
 
 -- the fields of an accepted message are within their lists
-pub fits-by : (s : List ℕ) (way : Way) (m : Message) (e : Effect) → Bytes s → decode way s ≡ accepted (formOf m) (valuesOf m) → told e ≡ effectOf m → effectFits (told e) ≡ true
+pub fits-by : (s : List ℕ) (way : Way) (m : Message) (e : Effect) → Bytes s → decode way s ≡ Decode.accepted (formOf m) (valuesOf m) → e ≡ effectOf m → effectFits e ≡ true
 fits-by s way m e bytes read is = ap effectFits (is ∙ sym (ap effectOf (message-back m))) ∙ effect-fits way s bytes (formOf m) (valuesOf m) read

@@ -1,31 +1,52 @@
 -- Each step of a table, by the cells of a sound one.
 use Prim.Native.Nat.{ℕ, _+_, _*_, _≤_, _<_}
-use native.Mathlib.Nat.{add-zero}
 use native.Mathlib.Omega.{arith}
 use mathlib.Core.Path.{_≡_, refl, sym, _∙_, ap}
-use mathlib.Core.Bool.{true, false}
-use mathlib.Core.List.{List, _++_, append-nil}
+use mathlib.Core.Bool.{Bool, true, false, cond}
+use mathlib.Core.List.{List, [], _∷_, _++_, append-nil}
 use mathlib.Core.Option.{Option, none, some}
 use mathlib.Core.Logic.{⊎-elim}
+use lib.Dec.{eqb}
 use lib.ListN.{length, getD, replicate, drop-of-length-le}
-use Rattle.rules.specs.Effect.{attach, attachVirtual, detach, setFormat, answer, ask, empty}
-use Rattle.rules.specs.Facts.{Setup, Format, Wiring, unjoined, joined, virtual, Facts, known, isVirtual}
-use Rattle.rules.specs.Table.{Record, Table, viewOfTable, fullTable, change, remove, newRecord, wired, withFormat, answeredState, withAnswer, withAsk, dissolve, wiredAs, dissolveBy, detachBy, apply}
-use Rattle.rules.specs.Judge.{goodPair}
+use Rattle.rules.specs.declared.Change.the-variants.{Unchanged, Formatted, Answered, Asked}
+use Rattle.rules.specs.declared.Effect.the-variants.{ToPort, Attach, AttachVirtual, Detach, Empty}
+use Rattle.rules.specs.Layout.{places, stride, tableSize, wiringIndex, firstIndex, secondIndex, askedIndex, answeredIndex}
+use Rattle.rules.specs.Learn.{answeredState, learn}
+use Rattle.rules.specs.Facts.{Facts, known, isVirtual}
+use Rattle.rules.specs.declared.Setup.{Setup}
+use Rattle.rules.specs.declared.Format.{Format}
+use Rattle.rules.specs.declared.Wiring.{Wiring}
+use Rattle.rules.specs.declared.Wiring.the-variants.{Unjoined, Joined, Virtual}
+use Rattle.rules.specs.Table.{Record, Table, viewOfTable, fullTable, changed, change, remove, newRecord, wired, onSettings, dissolve, wiredAs, dissolveBy, detachBy, apply}
+use Rattle.rules.specs.Judge.{pairTest}
 use Rattle.rules.specs.Cells.{wiringCell, firstPartner, secondPartner, placeCells, cellsOf, tableAt, setupAt, sound, emptyCells}
 use Rattle.rules.proofs.Sound.{wiring?, wiredIn, Sound, seen}
 use Rattle.rules.proofs.Pairs.{Named, port-first, port-second, at-first, at-second, joined-virtual}
 use Rattle.rules.proofs.Apply.{wired-dissolve, sound-dissolve}
-use Rattle.rules.proofs.CellsSound.{sound-is, empty-cells}
+use Rattle.rules.proofs.Kept.{good-pair}
+use Rattle.rules.proofs.CellsSound.{sound-is, sound-length, empty-cells}
 use Rattle.rules.proofs.Laws.{table-sound}
-use Rattle.table.specs.Place.{placeOf, firstFree}
-use Rattle.table.specs.Step.{stored, zeroed}
-use Rattle.table.proofs.Places.{sixteen}
-use Rattle.table.proofs.Stores.{cell-of, cells-length}
+use Rattle.soundness.specs.Place.{placeOf, firstFree, cellOf, findPlace, freePlace}
+use Rattle.table.specs.Stores.{stored, zeroed, askedAt}
+use Rattle.soundness.proofs.Places.{sixteen, find-place, free-place}
+use Rattle.table.proofs.Stores.{cell-of}
 use Rattle.table.proofs.Blocks.{wiring-stores, format-stores, setup-stores, attach-stores, virtual-stores, format-block, ask-block, answer-block, asked-block, kind-block, first-block, second-block, attach-block, virtual-block}
 use Rattle.table.proofs.Changes.{stands, free-below, place-change, free-change, place-remove, freed-none}
 use Rattle.table.proofs.Lifts.{change-cells, remove-cells, insert-cells, pair-cells, dissolve-cells}
-use Rattle.table.proofs.Wirings.{present, kind-unjoined, kind-virtual, kind-joined, virtual-is, good-pair, wired-known, wired-as}
+use Rattle.table.proofs.Wirings.{present, kind-unjoined, kind-virtual, kind-joined, virtual-is, wired-known, wired-as}
+
+-- a port that is told nothing
+change-nothing : (port : ℕ) (t : Table) → change port (onSettings (learn Unchanged)) t ≡ t
+unfolding learn
+change-nothing port [] = refl
+change-nothing port (none ∷ t) = ap (λ (u : Table). none ∷ u) (change-nothing port t)
+change-nothing port (some r ∷ t) =
+    let same : changed port (onSettings (learn Unchanged)) r ≡ r = λ i. record { port = r .port; facts = either (eqb (r .port) port) (r .facts) i } in
+    λ i. some (same i) ∷ change-nothing port t i
+  where
+    either : (b : Bool) (f : Facts) → cond b f f ≡ f
+    either true f = refl
+    either false f = refl
 
 module _ (cells : List ℕ) (ok : sound cells ≡ true) where
   abbrev t : Table
@@ -37,47 +58,56 @@ module _ (cells : List ℕ) (ok : sound cells ≡ true) where
   abbrev is : cells ≡ cellsOf t
   is = sound-is cells ok .0
 
-  pub sound-length : length cells ≡ 448
-  sound-length = ap length is ∙ cells-length t ∙ ap (λ (n : ℕ). 28 * n) (formed .loose .size)
-
   -- ---- places within the table
 
-  pub present-below : (port place : ℕ) → known (viewOfTable t port) ≡ true → place ≡ placeOf t port → place < 16
+  pub found-at : (port place : ℕ) → place ≡ findPlace cells port → place ≡ placeOf t port
+  found-at port place e = e ∙ find-place cells (sound-length cells ok) port
+
+  pub free-at : (place : ℕ) → place ≡ freePlace cells → place ≡ firstFree t
+  free-at place e = e ∙ free-place cells (sound-length cells ok)
+
+  pub present-below : (port place : ℕ) → known (viewOfTable t port) ≡ true → place ≡ placeOf t port → place < places
   present-below port place k at =
       let p = present (viewOfTable t port) k in
       omega (arith, stands t port (p .facts) (p .is) .below, formed .loose .size)
 
-  pub room-below : (place : ℕ) → fullTable t ≡ false → place ≡ firstFree t → place < 16
+  pub room-below : (place : ℕ) → fullTable t ≡ false → place ≡ firstFree t → place < places
   room-below place room at = omega (arith, free-below t room, formed .loose .size)
 
   -- ---- attaching
 
-  pub attach-is : (port device place : ℕ) (out : List ℕ) → place ≡ firstFree t → out ≡ stored cells place (attach-stores port device) → out ≡ cellsOf (apply (attach port device) t)
+  pub attach-is : (port device place : ℕ) (out : List ℕ) → place ≡ firstFree t → out ≡ stored cells place (attach-stores port device) → out ≡ cellsOf (apply (Attach port device) t)
   unfolding apply
   attach-is port device place out at new =
       new ∙ (λ i. stored (is i) (at i) (attach-stores port device))
-      ∙ insert-cells t (newRecord port device unjoined) (attach-stores port device) (omega arith, (omega arith, (omega arith, tt))) (attach-block port device)
+      ∙ insert-cells t (newRecord port device Unjoined) (attach-stores port device) (omega arith, (omega arith, (omega arith, tt))) (attach-block port device)
 
-  pub pair-known : (a b : ℕ) → goodPair (viewOfTable t) a b ≡ true → (known (viewOfTable t a) ≡ true) × (known (viewOfTable t b) ≡ true)
-  pair-known a b good = let g = good-pair t a b good in (wired-known (viewOfTable t a) unjoined (g .one), wired-known (viewOfTable t b) unjoined (g .two))
+  pub pair-known : (a b : ℕ) → pairTest (viewOfTable t) a b ≡ true → (known (viewOfTable t a) ≡ true) × (known (viewOfTable t b) ≡ true)
+  pair-known a b good = let g = good-pair t a b good in (wired-known (viewOfTable t a) Unjoined (g .one), wired-known (viewOfTable t b) Unjoined (g .two))
 
-  pub attach-virtual-is : (port device a b place one two : ℕ) (mid out : List ℕ) → goodPair (viewOfTable t) a b ≡ true → place ≡ firstFree t → one ≡ placeOf t a → two ≡ placeOf t b
-      → mid ≡ stored (stored cells one (wiring-stores (joined port))) two (wiring-stores (joined port))
+  pub attach-virtual-is : (port device a b place one two : ℕ) (mid out : List ℕ) → pairTest (viewOfTable t) a b ≡ true → place ≡ firstFree t → one ≡ placeOf t a → two ≡ placeOf t b
+      → mid ≡ stored (stored cells one (wiring-stores (Joined port))) two (wiring-stores (Joined port))
       → out ≡ stored mid place (virtual-stores port device a b)
-      → out ≡ cellsOf (apply (attachVirtual port device a b) t)
+      → out ≡ cellsOf (apply (AttachVirtual port device a b) t)
   unfolding apply
   attach-virtual-is port device a b place one two mid out good at at-a at-b joining new =
       let g = good-pair t a b good in
-      let u : Table = change a (wired (joined port)) t in
-      let v : Table = change b (wired (joined port)) u in
+      let u : Table = change a (wired (Joined port)) t in
+      let v : Table = change b (wired (Joined port)) u in
       let joins : mid ≡ cellsOf v =
-      joining ∙ (λ i. stored (stored (is i) (at-a i) (wiring-stores (joined port))) (at-b i) (wiring-stores (joined port)))
-      ∙ pair-cells t a b (joined port) unjoined (formed .loose) (g .one) (g .two) (g .apart) refl
+      joining ∙ (λ i. stored (stored (is i) (at-a i) (wiring-stores (Joined port))) (at-b i) (wiring-stores (Joined port)))
+      ∙ pair-cells t a b (Joined port) Unjoined (formed .loose) (g .one) (g .two) (g .apart) refl
       in
-      let free : firstFree t ≡ firstFree v = sym (free-change u b (wired (joined port)) ∙ free-change t a (wired (joined port))) in
+      let free : firstFree t ≡ firstFree v = sym (free-change u b (wired (Joined port)) ∙ free-change t a (wired (Joined port))) in
       new ∙ (λ i. stored (joins i) ((at ∙ free) i) (virtual-stores port device a b))
-      ∙ insert-cells v (newRecord port device (virtual a b)) (virtual-stores port device a b)
+      ∙ insert-cells v (newRecord port device (Virtual a b)) (virtual-stores port device a b)
       (omega arith, (omega arith, (omega arith, (omega arith, (omega arith, tt))))) (virtual-block port device a b)
+
+  -- ---- a port that is told nothing that is kept
+
+  pub unchanged-is : (port : ℕ) → cells ≡ cellsOf (apply (ToPort port Unchanged) t)
+  unfolding apply
+  unchanged-is port = is ∙ ap cellsOf (sym (change-nothing port t))
 
   -- ---- the record of a port that is present
 
@@ -91,45 +121,47 @@ module _ (cells : List ℕ) (ok : sound cells ≡ true) where
     abbrev itself : Record
     itself = record { port = port; facts = f }
 
-    record-cell : (n : ℕ) → n < 28 → getD cells (28 * place + n) 0 ≡ getD (placeCells (some itself)) n 0
+    record-cell : (n : ℕ) → n < stride → cellOf cells place n ≡ getD (placeCells (some itself)) n 0
     record-cell n h =
         let s = stands t port f seen-as in
-        (λ i. getD (is i) (28 * at i + n) 0) ∙ cell-of t (placeOf t port) n (s .below) h ∙ ap (λ (p : Option Record). getD (placeCells p) n 0) (s .here)
+        (λ i. getD (is i) (stride * at i + n) 0) ∙ cell-of t (placeOf t port) n (s .below) h ∙ ap (λ (p : Option Record). getD (placeCells p) n 0) (s .here)
 
-    kind-is : getD cells (28 * place) 0 ≡ wiringCell (f .wiring)
-    kind-is = ap (λ (n : ℕ). getD cells n 0) (sym (add-zero (28 * place))) ∙ record-cell 0 (omega arith) ∙ kind-block itself
+    kind-is : cellOf cells place wiringIndex ≡ wiringCell (f .wiring)
+    kind-is = record-cell wiringIndex (omega arith) ∙ kind-block itself
 
-    first-is : getD cells (28 * place + 3) 0 ≡ firstPartner (f .wiring)
-    first-is = record-cell 3 (omega arith) ∙ first-block itself
+    first-is : cellOf cells place firstIndex ≡ firstPartner (f .wiring)
+    first-is = record-cell firstIndex (omega arith) ∙ first-block itself
 
-    second-is : getD cells (28 * place + 4) 0 ≡ secondPartner (f .wiring)
-    second-is = record-cell 4 (omega arith) ∙ second-block itself
+    second-is : cellOf cells place secondIndex ≡ secondPartner (f .wiring)
+    second-is = record-cell secondIndex (omega arith) ∙ second-block itself
 
-    asked-is : setupAt (getD cells (28 * place + 6) 0) (getD cells (28 * place + 7) 0) (getD cells (28 * place + 8) 0) ≡ f .asked
-    asked-is = (λ i. setupAt (record-cell 6 (omega arith) i) (record-cell 7 (omega arith) i) (record-cell 8 (omega arith) i)) ∙ asked-block itself
+    asked-is : askedAt cells place ≡ f .settings .asked
+    asked-is = (λ i. setupAt (record-cell askedIndex (omega arith) i) (record-cell (askedIndex + 1) (omega arith) i) (record-cell (askedIndex + 2) (omega arith) i)) ∙ asked-block itself
 
-    -- ---- changes of its facts
+    -- ---- what it is told
 
-    pub set-format-is : (mode : ℕ) (new : Format) → mode ≤ 15 → stored cells place (format-stores mode new) ≡ cellsOf (apply (setFormat port mode new) t)
+
+
+    pub set-format-is : (mode : ℕ) (new : Format) → mode ≤ 15 → stored cells place (format-stores mode new) ≡ cellsOf (apply (ToPort port (Formatted mode new)) t)
     unfolding apply
     set-format-is mode new h =
         (λ i. stored (is i) (at i) (format-stores mode new))
-        ∙ change-cells t port (withFormat mode new) f (format-stores mode new) (formed .loose .distinct) seen-as (omega arith, tt) (format-block itself mode new h)
+        ∙ change-cells t port (onSettings (learn (Formatted mode new))) f (format-stores mode new) (formed .loose .distinct) seen-as (omega arith, tt) (format-block itself mode new h)
 
-    pub ask-is : (s : Setup) (out : List ℕ) → out ≡ stored cells place (setup-stores 6 s 1) → out ≡ cellsOf (apply (ask port s) t)
+    pub ask-is : (s : Setup) (out : List ℕ) → out ≡ stored cells place (setup-stores askedIndex s 1) → out ≡ cellsOf (apply (ToPort port (Asked s)) t)
     unfolding apply
     ask-is s out new =
-        new ∙ (λ i. stored (is i) (at i) (setup-stores 6 s 1))
-        ∙ change-cells t port (withAsk s) f (setup-stores 6 s 1) (formed .loose .distinct) seen-as
+        new ∙ (λ i. stored (is i) (at i) (setup-stores askedIndex s 1))
+        ∙ change-cells t port (onSettings (learn (Asked s))) f (setup-stores askedIndex s 1) (formed .loose .distinct) seen-as
         (omega arith, (omega arith, (omega arith, (omega arith, tt)))) (ask-block itself s)
 
-    pub answer-is : (s : Setup) (state : ℕ) (out : List ℕ) → state ≡ answeredState (setupAt (getD cells (28 * place + 6) 0) (getD cells (28 * place + 7) 0) (getD cells (28 * place + 8) 0)) s
-        → out ≡ stored cells place (setup-stores 9 s state) → out ≡ cellsOf (apply (answer port s) t)
+    pub answer-is : (s : Setup) (state : ℕ) (out : List ℕ) → state ≡ answeredState (askedAt cells place) s
+        → out ≡ stored cells place (setup-stores answeredIndex s state) → out ≡ cellsOf (apply (ToPort port (Answered s)) t)
     unfolding apply
     answer-is s state out e new =
-        let now : state ≡ answeredState (f .asked) s = e ∙ ap (λ (x : Option Setup). answeredState x s) asked-is in
-        new ∙ (λ i. stored (is i) (at i) (setup-stores 9 s (now i)))
-        ∙ change-cells t port (withAnswer s) f (setup-stores 9 s (answeredState (f .asked) s)) (formed .loose .distinct) seen-as
+        let now : state ≡ answeredState (f .settings .asked) s = e ∙ ap (λ (x : Option Setup). answeredState x s) asked-is in
+        new ∙ (λ i. stored (is i) (at i) (setup-stores answeredIndex s (now i)))
+        ∙ change-cells t port (onSettings (learn (Answered s))) f (setup-stores answeredIndex s (answeredState (f .settings .asked) s)) (formed .loose .distinct) seen-as
         (omega arith, (omega arith, (omega arith, (omega arith, tt)))) (answer-block itself s)
 
     -- ---- it goes
@@ -137,80 +169,80 @@ module _ (cells : List ℕ) (ok : sound cells ≡ true) where
     abbrev as-wired : (y : Wiring) → f .wiring ≡ y → wiredIn t port ≡ some y
     as-wired y e = ap wiring? seen-as ∙ ap some e
 
-    pub detach-unjoined : (out : List ℕ) → getD cells (28 * place) 0 ≡ 1 → out ≡ zeroed cells (28 * place) 28 → out ≡ cellsOf (apply (detach port) t)
+    pub detach-unjoined : (out : List ℕ) → cellOf cells place wiringIndex ≡ 1 → out ≡ zeroed cells (stride * place) stride → out ≡ cellsOf (apply (Detach port) t)
     unfolding apply
     detach-unjoined out e new =
-        let w = as-wired unjoined (kind-unjoined (f .wiring) (sym kind-is ∙ e)) in
-        new ∙ (λ i. zeroed (is i) (28 * at i) 28) ∙ remove-cells t port f (formed .loose .distinct) seen-as ∙ sym (ap (λ (y : Wiring). cellsOf (detachBy port y t)) (wired-as (viewOfTable t port) unjoined w))
+        let w = as-wired Unjoined (kind-unjoined (f .wiring) (sym kind-is ∙ e)) in
+        new ∙ (λ i. zeroed (is i) (stride * at i) stride) ∙ remove-cells t port f (formed .loose .distinct) seen-as ∙ sym (ap (λ (y : Wiring). cellsOf (detachBy port y t)) (wired-as (viewOfTable t port) Unjoined w))
 
-    pub detach-pair : getD cells (28 * place) 0 ≡ 3 → isVirtual (wiredAs (viewOfTable t port)) ≡ true
+    pub detach-pair : cellOf cells place wiringIndex ≡ 3 → isVirtual (wiredAs (viewOfTable t port)) ≡ true
     detach-pair e = ap (λ (x : Option Facts). isVirtual (wiredAs x)) seen-as ∙ kind-virtual (f .wiring) (sym kind-is ∙ e)
 
-    pub detach-virtual : (out : List ℕ) → getD cells (28 * place) 0 ≡ 3 → out ≡ cellsOf (dissolveBy port (wiredAs (viewOfTable t port)) t) → out ≡ cellsOf (apply (detach port) t)
+    pub detach-virtual : (out : List ℕ) → cellOf cells place wiringIndex ≡ 3 → out ≡ cellsOf (dissolveBy port (wiredAs (viewOfTable t port)) t) → out ≡ cellsOf (apply (Detach port) t)
     unfolding apply
     detach-virtual out e new = new ∙ ap cellsOf (same (wiredAs (viewOfTable t port)) (detach-pair e))
       where
         same : (w : Wiring) → isVirtual w ≡ true → dissolveBy port w t ≡ detachBy port w t
         same w v = ap (λ (y : Wiring). dissolveBy port y t) (virtual-is w v) ∙ sym (ap (λ (y : Wiring). detachBy port y t) (virtual-is w v))
 
-    -- a virtual port's members
+    -- a Virtual port's members
     module _ (v : isVirtual (wiredAs (viewOfTable t port)) ≡ true) where
       abbrev a : ℕ
-      a = getD cells (28 * place + 3) 0
+      a = cellOf cells place firstIndex
 
       abbrev b : ℕ
-      b = getD cells (28 * place + 4) 0
+      b = cellOf cells place secondIndex
 
-      pair-is : f .wiring ≡ virtual a b
-      pair-is = virtual-is (f .wiring) (sym (ap (λ (x : Option Facts). isVirtual (wiredAs x)) seen-as) ∙ v) ∙ (λ i. virtual (sym first-is i) (sym second-is i))
+      pair-is : f .wiring ≡ Virtual a b
+      pair-is = virtual-is (f .wiring) (sym (ap (λ (x : Option Facts). isVirtual (wiredAs x)) seen-as) ∙ v) ∙ (λ i. Virtual (sym first-is i) (sym second-is i))
 
-      abbrev pair : wiredIn t port ≡ some (virtual a b)
-      pair = as-wired (virtual a b) pair-is
+      abbrev pair : wiredIn t port ≡ some (Virtual a b)
+      pair = as-wired (Virtual a b) pair-is
 
       pub first-known : known (viewOfTable t a) ≡ true
-      first-known = wired-known (viewOfTable t a) (joined port) (formed .pairs .first port a b pair)
+      first-known = wired-known (viewOfTable t a) (Joined port) (formed .pairs .first port a b pair)
 
       pub second-known : known (viewOfTable t b) ≡ true
-      second-known = wired-known (viewOfTable t b) (joined port) (formed .pairs .second port a b pair)
+      second-known = wired-known (viewOfTable t b) (Joined port) (formed .pairs .second port a b pair)
 
-      pub dissolve-is : (one two : ℕ) (mid out : List ℕ) → one ≡ placeOf t a → two ≡ placeOf t b → mid ≡ stored (stored cells one (wiring-stores unjoined)) two (wiring-stores unjoined)
-          → out ≡ zeroed mid (28 * place) 28 → out ≡ cellsOf (dissolveBy port (wiredAs (viewOfTable t port)) t)
+      pub dissolve-is : (one two : ℕ) (mid out : List ℕ) → one ≡ placeOf t a → two ≡ placeOf t b → mid ≡ stored (stored cells one (wiring-stores Unjoined)) two (wiring-stores Unjoined)
+          → out ≡ zeroed mid (stride * place) stride → out ≡ cellsOf (dissolveBy port (wiredAs (viewOfTable t port)) t)
       dissolve-is one two mid out at-a at-b freeing new =
-          new ∙ ap (λ (l : List ℕ). zeroed l (28 * place) 28) freeing
-          ∙ (λ i. zeroed (stored (stored (is i) (at-a i) (wiring-stores unjoined)) (at-b i) (wiring-stores unjoined)) (28 * at i) 28) ∙ dissolve-cells t port a b formed pair
-          ∙ sym (ap (λ (y : Wiring). cellsOf (dissolveBy port y t)) (wired-as (viewOfTable t port) (virtual a b) pair))
+          new ∙ ap (λ (l : List ℕ). zeroed l (stride * place) stride) freeing
+          ∙ (λ i. zeroed (stored (stored (is i) (at-a i) (wiring-stores Unjoined)) (at-b i) (wiring-stores Unjoined)) (stride * at i) stride) ∙ dissolve-cells t port a b formed pair
+          ∙ sym (ap (λ (y : Wiring). cellsOf (dissolveBy port y t)) (wired-as (viewOfTable t port) (Virtual a b) pair))
 
-    -- a member of a virtual port
-    module _ (not-pair : getD cells (28 * place) 0 ≡ 3 → ⊥) (not-alone : getD cells (28 * place) 0 ≡ 1 → ⊥) where
+    -- a member of a Virtual port
+    module _ (not-pair : cellOf cells place wiringIndex ≡ 3 → ⊥) (not-alone : cellOf cells place wiringIndex ≡ 1 → ⊥) where
       abbrev v : ℕ
-      v = getD cells (28 * place + 3) 0
+      v = cellOf cells place firstIndex
 
-      joined-is : wiredIn t port ≡ some (joined v)
+      joined-is : wiredIn t port ≡ some (Joined v)
       joined-is =
-          as-wired (joined v)
-          (kind-joined (f .wiring) (λ (e : wiringCell (f .wiring) ≡ 3). not-pair (kind-is ∙ e)) (λ (e : wiringCell (f .wiring) ≡ 1). not-alone (kind-is ∙ e)) ∙ ap joined (sym first-is))
+          as-wired (Joined v)
+          (kind-joined (f .wiring) (λ (e : wiringCell (f .wiring) ≡ 3). not-pair (kind-is ∙ e)) (λ (e : wiringCell (f .wiring) ≡ 1). not-alone (kind-is ∙ e)) ∙ ap Joined (sym first-is))
 
       abbrev named : Named (wiredIn t) port v
       named = formed .pairs .up port v joined-is
 
       abbrev its : Wiring
-      its = virtual (named .a) (named .b)
+      its = Virtual (named .a) (named .b)
 
       pub partner-virtual : isVirtual (wiredAs (viewOfTable t v)) ≡ true
       partner-virtual = ap isVirtual (wired-as (viewOfTable t v) its (named .pair))
 
-      -- what is left of the table without the virtual port
+      -- what is left of the table without the Virtual port
       abbrev rest : Table
       rest = dissolve v (named .a) (named .b) t
 
-      still : wiredIn rest port ≡ some unjoined
+      still : wiredIn rest port ≡ some Unjoined
       still =
           let va = port-first (wiredIn t) (formed .pairs) v (named .a) (named .b) (named .pair) in
           let vb = port-second (wiredIn t) (formed .pairs) v (named .a) (named .b) (named .pair) in
           wired-dissolve t formed v (named .a) (named .b) (named .pair) port
           ∙ ⊎-elim
-          (λ (e : named .a ≡ port). at-first (wiredIn t) v (named .a) (named .b) none (some unjoined) va vb port e)
-          (λ (e : named .b ≡ port). at-second (wiredIn t) v (named .a) (named .b) none (some unjoined) va vb port e)
+          (λ (e : named .a ≡ port). at-first (wiredIn t) v (named .a) (named .b) none (some Unjoined) va vb port e)
+          (λ (e : named .b ≡ port). at-second (wiredIn t) v (named .a) (named .b) none (some Unjoined) va vb port e)
           (named .member)
 
       apart : v ≡ port → ⊥
@@ -218,26 +250,26 @@ module _ (cells : List ℕ) (ok : sound cells ≡ true) where
 
       stays : placeOf rest port ≡ placeOf t port
       stays =
-          place-remove (change (named .b) (wired unjoined) (change (named .a) (wired unjoined) t)) v port apart
-          ∙ place-change (change (named .a) (wired unjoined) t) (named .b) (wired unjoined) port
-          ∙ place-change t (named .a) (wired unjoined) port
+          place-remove (change (named .b) (wired Unjoined) (change (named .a) (wired Unjoined) t)) v port apart
+          ∙ place-change (change (named .a) (wired Unjoined) t) (named .b) (wired Unjoined) port
+          ∙ place-change t (named .a) (wired Unjoined) port
 
-      pub detach-joined : (mid out : List ℕ) → mid ≡ cellsOf (dissolveBy v (wiredAs (viewOfTable t v)) t) → out ≡ zeroed mid (28 * place) 28 → out ≡ cellsOf (apply (detach port) t)
+      pub detach-joined : (mid out : List ℕ) → mid ≡ cellsOf (dissolveBy v (wiredAs (viewOfTable t v)) t) → out ≡ zeroed mid (stride * place) stride → out ≡ cellsOf (apply (Detach port) t)
       unfolding apply
       detach-joined mid out dissolving new =
-          let s = seen (viewOfTable rest port) unjoined still in
+          let s = seen (viewOfTable rest port) Unjoined still in
           let partner = wired-as (viewOfTable t v) its (named .pair) in
-          let own = wired-as (viewOfTable t port) (joined v) joined-is in
-          new ∙ ap (λ (l : List ℕ). zeroed l (28 * place) 28) dissolving ∙ (λ i. zeroed (cellsOf (dissolveBy v (partner i) t)) (28 * (at ∙ sym stays) i) 28)
+          let own = wired-as (viewOfTable t port) (Joined v) joined-is in
+          new ∙ ap (λ (l : List ℕ). zeroed l (stride * place) stride) dissolving ∙ (λ i. zeroed (cellsOf (dissolveBy v (partner i) t)) (stride * (at ∙ sym stays) i) stride)
           ∙ remove-cells rest port (s .facts) (sound-dissolve t formed v (named .a) (named .b) (named .pair) .loose .distinct) (s .is)
           ∙ sym (ap (λ (y : Wiring). cellsOf (detachBy port y t)) own ∙ ap (λ (y : Wiring). cellsOf (remove port (dissolveBy v y t))) partner)
 
 -- ---- emptying
 
-pub empty-is : (cells : List ℕ) → cellsOf (apply empty (tableAt cells)) ≡ emptyCells
+pub empty-is : (cells : List ℕ) → cellsOf (apply Empty (tableAt cells)) ≡ emptyCells
 unfolding apply
 empty-is cells = ap cellsOf (freed-none (tableAt cells) ∙ ap (λ (n : ℕ). replicate n none) (sixteen cells)) ∙ sym empty-cells
 
-pub clear-is : (cells out : List ℕ) → length cells ≡ 448 → out ≡ zeroed cells 0 448 → out ≡ emptyCells
+pub clear-is : (cells out : List ℕ) → length cells ≡ tableSize → out ≡ zeroed cells 0 tableSize → out ≡ emptyCells
 unfolding zeroed emptyCells
-clear-is cells out e new = new ∙ ap (λ (l : List ℕ). replicate 448 0 ++ l) (drop-of-length-le cells {i = 448} (omega arith)) ∙ append-nil (replicate 448 0)
+clear-is cells out e new = new ∙ ap (λ (l : List ℕ). replicate tableSize 0 ++ l) (drop-of-length-le cells {i = tableSize} (omega arith)) ∙ append-nil (replicate tableSize 0)

@@ -1,17 +1,17 @@
-use mathlib.Core.Path.{sym, _∙_, ap}
-use mathlib.Core.Bool.{Bool, cond}
+use mathlib.Core.Bool.{Bool, cond, not}
+use mathlib.Core.Path.{_≡_, refl, sym, _∙_, ap}
 use borrow.Author.Needs.{needs}
 use Rattle.table.proofs.judge.connection.Statement.{statement}
 use Rattle.table.proofs.judge.connection.Tie as tie
 
-is-good-pair-requires : tie.Need-is-good-pair-requires
-is-good-pair-requires c κs = search needs
+is-pair-requires : tie.Need-is-pair-requires
+is-pair-requires c κs = search needs
 
 returns : tie.Need-returns
-returns c = sym (ap (λ (b : Bool). cond b 0 12) (sym (c .before .is-good-pair .ensures) ∙ c .if1 .taken))
+returns c = sym (ap (λ (b : Bool). cond b 0 12) (sym (c .before .is-pair .ensures) ∙ c .if1 .taken))
 
 returns-2 : tie.Need-returns-2
-returns-2 c = sym (ap (λ (b : Bool). cond b 0 12) (sym (c .before .is-good-pair .ensures) ∙ c .if1 .left))
+returns-2 c = sym (ap (λ (b : Bool). cond b 0 12) (sym (c .before .is-pair .ensures) ∙ c .if1 .left))
 
 pub connection-spec : {M : Type 1} → statement M
-connection-spec = tie.close (tie.spec is-good-pair-requires returns returns-2)
+connection-spec = tie.close (tie.spec is-pair-requires returns returns-2)

@@ -1,14 +1,13 @@
-use Prim.Native.Nat.{_+_, _*_}
-use mathlib.Core.Bool.{Bool, cond}
-use mathlib.Core.Logic.{inl, inr}
-use lib.ListN.{getD}
 use native.Mathlib.Omega.{arith}
-use mathlib.Core.Path.{sym, _∙_, ap}
-use Rattle.rules.specs.Judge.{judgeDisconnect}
-use Rattle.table.specs.Place.{factsAt}
-use Rattle.table.proofs.Places.{nowhere}
-use Rattle.table.proofs.Records.{disconnect-at, physical-kind, virtual-kind}
+use mathlib.Core.Bool.{Bool, cond, not}
+use mathlib.Core.Logic.{inl, inr}
+use mathlib.Core.Path.{_≡_, refl, sym, _∙_, ap}
 use borrow.Author.Needs.{needs}
+use Rattle.rules.specs.Judge.{judge, present, pairTest, refusalIfFull, presentUnjoined, judgeDisconnect, widthOf, judgeValue}
+use Rattle.rules.specs.Layout.{wiringIndex, firstIndex, secondIndex}
+use Rattle.soundness.proofs.Places.{found, free-is, nowhere}
+use Rattle.soundness.specs.Place.{factsAt, cellOf}
+use Rattle.table.proofs.Records.{known-at, unjoined-at, disconnect-at, first-fails, second-fails, third-decides, physical-kind, virtual-kind, by-case, attached-11, attached-12, attached-13}
 use Rattle.table.proofs.judge.disconnection.Statement.{statement}
 use Rattle.table.proofs.judge.disconnection.Tie as tie
 
@@ -16,25 +15,42 @@ find-requires : tie.Need-find-requires
 find-requires c κs = search needs
 
 returns : tie.Need-returns
-returns c = sym (ap judgeDisconnect (c .before .find .ensures .1 ∙ ap (factsAt (c .before .before .before .args .table .now)) (c .if1 .taken) ∙ nowhere (c .before .before .before .args .table .now)))
+returns c = 
+    let a = c .before .before .before .args in
+    sym (ap judgeDisconnect (found (a .table .now) (c .before .before .before .pre) (a .port) (c .before .find .result) (c .before .find .ensures .1) ∙ ap (factsAt (a .table .now)) (c .if1 .taken) ∙ nowhere (a .table .now)))
 
-mul-match : tie.Need-mul-match
-mul-match c = search needs
+mul-wiring : tie.Need-mul-wiring
+mul-wiring c = search needs
 
-mul-match-2 : tie.Need-mul-match-2
-mul-match-2 c = search needs
+add-wiring : tie.Need-add-wiring
+add-wiring c = search needs
 
-shared-slice-read-match : tie.Need-shared-slice-read-match
-shared-slice-read-match c = search needs
+mul-wiring-2 : tie.Need-mul-wiring-2
+mul-wiring-2 c = search needs
+
+shared-slice-read-wiring : tie.Need-shared-slice-read-wiring
+shared-slice-read-wiring c = search needs
 
 returns-2 : tie.Need-returns-2
-returns-2 c = sym (ap judgeDisconnect (c .before .before .before .find .ensures .1) ∙ disconnect-at (c .before .before .before .before .before .args .table .now) (c .before .before .before .find .result) (omega (arith, c .before .before .before .find .ensures .0, c .before .before .if1 .left)) ∙ ap (λ (b : Bool). cond b 0 12) (physical-kind (getD (c .before .before .before .before .before .args .table .now) (28 * c .before .before .before .find .result) 0) (getD (c .before .before .before .before .before .args .table .now) (28 * c .before .before .before .find .result + 3) 0) (getD (c .before .before .before .before .before .args .table .now) (28 * c .before .before .before .find .result + 4) 0) (inl (c .match .keys1))))
+returns-2 c = 
+    let a = c .before .before .before .before .before .args in
+    let t = a .table .now in
+    let i = c .before .before .before .find .result in
+    sym (ap judgeDisconnect (found (a .table .now) (c .before .before .before .before .before .pre) (a .port) (c .before .before .before .find .result) (c .before .before .before .find .ensures .1)) ∙ disconnect-at t i (omega (arith, c .before .before .before .find .ensures .0, c .before .before .if1 .left)) ∙ ap (λ (b : Bool). cond b 0 12) (physical-kind (cellOf t i wiringIndex) (cellOf t i firstIndex) (cellOf t i secondIndex) (inl (c .if2 .taken))))
 
 returns-3 : tie.Need-returns-3
-returns-3 c = sym (ap judgeDisconnect (c .before .before .before .find .ensures .1) ∙ disconnect-at (c .before .before .before .before .before .args .table .now) (c .before .before .before .find .result) (omega (arith, c .before .before .before .find .ensures .0, c .before .before .if1 .left)) ∙ ap (λ (b : Bool). cond b 0 12) (physical-kind (getD (c .before .before .before .before .before .args .table .now) (28 * c .before .before .before .find .result) 0) (getD (c .before .before .before .before .before .args .table .now) (28 * c .before .before .before .find .result + 3) 0) (getD (c .before .before .before .before .before .args .table .now) (28 * c .before .before .before .find .result + 4) 0) (inr (c .match .keys2))))
+returns-3 c = 
+    let a = c .before .before .before .before .before .before .args in
+    let t = a .table .now in
+    let i = c .before .before .before .before .find .result in
+    sym (ap judgeDisconnect (found (a .table .now) (c .before .before .before .before .before .before .pre) (a .port) (c .before .before .before .before .find .result) (c .before .before .before .before .find .ensures .1)) ∙ disconnect-at t i (omega (arith, c .before .before .before .before .find .ensures .0, c .before .before .before .if1 .left)) ∙ ap (λ (b : Bool). cond b 0 12) (physical-kind (cellOf t i wiringIndex) (cellOf t i firstIndex) (cellOf t i secondIndex) (inr (c .if3 .taken))))
 
 returns-4 : tie.Need-returns-4
-returns-4 c = sym (ap judgeDisconnect (c .before .before .before .find .ensures .1) ∙ disconnect-at (c .before .before .before .before .before .args .table .now) (c .before .before .before .find .result) (omega (arith, c .before .before .before .find .ensures .0, c .before .before .if1 .left)) ∙ ap (λ (b : Bool). cond b 0 12) (virtual-kind (getD (c .before .before .before .before .before .args .table .now) (28 * c .before .before .before .find .result) 0) (getD (c .before .before .before .before .before .args .table .now) (28 * c .before .before .before .find .result + 3) 0) (getD (c .before .before .before .before .before .args .table .now) (28 * c .before .before .before .find .result + 4) 0) (c .match .rest .0 .1) (c .match .rest .1)))
+returns-4 c = 
+    let a = c .before .before .before .before .before .before .args in
+    let t = a .table .now in
+    let i = c .before .before .before .before .find .result in
+    sym (ap judgeDisconnect (found (a .table .now) (c .before .before .before .before .before .before .pre) (a .port) (c .before .before .before .before .find .result) (c .before .before .before .before .find .ensures .1)) ∙ disconnect-at t i (omega (arith, c .before .before .before .before .find .ensures .0, c .before .before .before .if1 .left)) ∙ ap (λ (b : Bool). cond b 0 12) (virtual-kind (cellOf t i wiringIndex) (cellOf t i firstIndex) (cellOf t i secondIndex) (c .before .if2 .left) (c .if3 .left)))
 
 pub disconnection-spec : {M : Type 1} → statement M
 disconnection-spec =
@@ -42,9 +58,10 @@ disconnection-spec =
     (tie.spec
     find-requires
     returns
-    mul-match
-    mul-match-2
-    shared-slice-read-match
+    mul-wiring
+    add-wiring
+    mul-wiring-2
+    shared-slice-read-wiring
     returns-2
     returns-3
     returns-4)

@@ -1,7 +1,8 @@
-use mathlib.Core.Path.{sym, _∙_, ap}
-use Rattle.rules.specs.Facts.{known}
-use Rattle.table.proofs.Records.{known-at}
+use mathlib.Core.Path.{_≡_, refl, sym, _∙_, ap}
 use borrow.Author.Needs.{needs}
+use Rattle.rules.specs.Facts.{known}
+use Rattle.soundness.proofs.Places.{found, free-is, nowhere}
+use Rattle.table.proofs.Records.{known-at, unjoined-at, disconnect-at, first-fails, second-fails, third-decides, physical-kind, virtual-kind, by-case, attached-11, attached-12, attached-13}
 use Rattle.table.proofs.judge.is_present.Statement.{statement}
 use Rattle.table.proofs.judge.is_present.Tie as tie
 
@@ -9,7 +10,7 @@ find-requires : tie.Need-find-requires
 find-requires c κs = search needs
 
 returns : tie.Need-returns
-returns c = sym (ap known (c .find .ensures .1) ∙ known-at (c .before .before .args .table .now) (c .find .result))
+returns c = let a = c .before .before .args in sym (ap known (found (a .table .now) (c .before .before .pre) (a .port) (c .find .result) (c .find .ensures .1)) ∙ known-at (a .table .now) (c .find .result))
 
 pub is-present-spec : {M : Type 1} → statement M
 is-present-spec = tie.close (tie.spec find-requires returns)

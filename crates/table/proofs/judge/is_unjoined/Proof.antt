@@ -1,10 +1,10 @@
 use native.Mathlib.Omega.{arith}
-use mathlib.Core.Path.{sym, _∙_, ap}
-use Rattle.rules.specs.Judge.{unjoinedHere}
-use Rattle.table.specs.Place.{factsAt}
-use Rattle.table.proofs.Places.{nowhere}
-use Rattle.table.proofs.Records.{unjoined-at}
+use mathlib.Core.Path.{_≡_, refl, sym, _∙_, ap}
 use borrow.Author.Needs.{needs}
+use Rattle.rules.specs.Judge.{judge, present, pairTest, refusalIfFull, presentUnjoined, judgeDisconnect, widthOf, judgeValue}
+use Rattle.soundness.proofs.Places.{found, free-is, nowhere}
+use Rattle.soundness.specs.Place.{factsAt, cellOf}
+use Rattle.table.proofs.Records.{known-at, unjoined-at, disconnect-at, first-fails, second-fails, third-decides, physical-kind, virtual-kind, by-case, attached-11, attached-12, attached-13}
 use Rattle.table.proofs.judge.is_unjoined.Statement.{statement}
 use Rattle.table.proofs.judge.is_unjoined.Tie as tie
 
@@ -12,10 +12,15 @@ find-requires : tie.Need-find-requires
 find-requires c κs = search needs
 
 returns : tie.Need-returns
-returns c = sym (ap unjoinedHere (c .before .find .ensures .1 ∙ ap (factsAt (c .before .before .before .args .table .now)) (c .if1 .taken) ∙ nowhere (c .before .before .before .args .table .now)))
+returns c = 
+    let a = c .before .before .before .args in
+    sym (ap presentUnjoined (found (a .table .now) (c .before .before .before .pre) (a .port) (c .before .find .result) (c .before .find .ensures .1) ∙ ap (factsAt (a .table .now)) (c .if1 .taken) ∙ nowhere (a .table .now)))
 
 mul-result : tie.Need-mul-result
 mul-result c = search needs
+
+add-result : tie.Need-add-result
+add-result c = search needs
 
 mul-result-2 : tie.Need-mul-result-2
 mul-result-2 c = search needs
@@ -24,9 +29,18 @@ shared-slice-read-result : tie.Need-shared-slice-read-result
 shared-slice-read-result c = search needs
 
 returns-2 : tie.Need-returns-2
-returns-2 c = sym (ap unjoinedHere (c .before .before .find .ensures .1) ∙ unjoined-at (c .before .before .before .before .args .table .now) (c .before .before .find .result) (omega (arith, c .before .before .find .ensures .0, c .before .if1 .left)))
+returns-2 c = 
+    let a = c .before .before .before .before .args in
+    sym (ap presentUnjoined (found (a .table .now) (c .before .before .before .before .pre) (a .port) (c .before .before .find .result) (c .before .before .find .ensures .1)) ∙ unjoined-at (a .table .now) (c .before .before .find .result) (omega (arith, c .before .before .find .ensures .0, c .before .if1 .left)))
 
 pub is-unjoined-spec : {M : Type 1} → statement M
 is-unjoined-spec =
     tie.close
-    (tie.spec find-requires returns mul-result mul-result-2 shared-slice-read-result returns-2)
+    (tie.spec
+    find-requires
+    returns
+    mul-result
+    add-result
+    mul-result-2
+    shared-slice-read-result
+    returns-2)

@@ -1,9 +1,9 @@
-use mathlib.Core.Path.{refl}
-use Rattle.rules.specs.Judge.{judge}
-use Rattle.rules.proofs.CellsSound.{sound-length}
-use Rattle.effects.specs.Told.{told}
-use Rattle.table.proofs.Records.{by-case}
+use mathlib.Core.Path.{_≡_, refl, sym, _∙_, ap}
 use borrow.Author.Needs.{needs}
+use Rattle.rules.proofs.CellsSound.{sound-length}
+use Rattle.rules.specs.Judge.{judge, present, pairTest, refusalIfFull, presentUnjoined, judgeDisconnect, widthOf, judgeValue}
+use Rattle.rules.specs.declared.ValueLookup.{ValueLookup}
+use Rattle.table.proofs.Records.{known-at, unjoined-at, disconnect-at, first-fails, second-fails, third-decides, physical-kind, virtual-kind, by-case, attached-11, attached-12, attached-13}
 use Rattle.table.proofs.judge.judged.Statement.{statement}
 use Rattle.table.proofs.judge.judged.Tie as tie
 
@@ -13,8 +13,8 @@ enum-told c = search needs
 enum-known-e : tie.Need-enum-known-e
 enum-known-e c = search needs
 
-wanted-requires : tie.Need-wanted-requires
-wanted-requires c κs = sound-length (c .before .before .before .before .args .table .now) (c .before .before .before .before .pre)
+absent-refusal-requires : tie.Need-absent-refusal-requires
+absent-refusal-requires c κs = sound-length (c .before .before .before .before .args .table .now) (c .before .before .before .before .pre)
 
 enum-known-e-2 : tie.Need-enum-known-e-2
 enum-known-e-2 c = search needs
@@ -31,41 +31,26 @@ virtual-attachment-requires c κs = sound-length (c .before .before .before .bef
 enum-known-e-4 : tie.Need-enum-known-e-4
 enum-known-e-4 c = search needs
 
-wanted-requires-2 : tie.Need-wanted-requires-2
-wanted-requires-2 c κs = sound-length (c .before .before .before .before .args .table .now) (c .before .before .before .before .pre)
+absent-refusal-requires-2 : tie.Need-absent-refusal-requires-2
+absent-refusal-requires-2 c κs = sound-length (c .before .before .before .before .args .table .now) (c .before .before .before .before .pre)
 
 enum-known-e-5 : tie.Need-enum-known-e-5
 enum-known-e-5 c = search needs
 
-wanted-requires-3 : tie.Need-wanted-requires-3
-wanted-requires-3 c κs = sound-length (c .before .before .before .before .args .table .now) (c .before .before .before .before .pre)
-
-enum-known-e-6 : tie.Need-enum-known-e-6
-enum-known-e-6 c = search needs
-
-wanted-requires-4 : tie.Need-wanted-requires-4
-wanted-requires-4 c κs = sound-length (c .before .before .before .before .args .table .now) (c .before .before .before .before .pre)
-
-enum-known-e-7 : tie.Need-enum-known-e-7
-enum-known-e-7 c = search needs
-
-wanted-requires-5 : tie.Need-wanted-requires-5
-wanted-requires-5 c κs = sound-length (c .before .before .before .before .args .table .now) (c .before .before .before .before .pre)
-
-enum-known-e-8 : tie.Need-enum-known-e-8
-enum-known-e-8 c = search needs
+value-lookup-requires : tie.Need-value-lookup-requires
+value-lookup-requires c κs = search needs
 
 value-requires : tie.Need-value-requires
 value-requires c κs = search needs
 
-enum-known-e-9 : tie.Need-enum-known-e-9
-enum-known-e-9 c = search needs
+enum-known-e-6 : tie.Need-enum-known-e-6
+enum-known-e-6 c = search needs
 
 disconnection-requires : tie.Need-disconnection-requires
 disconnection-requires c κs = sound-length (c .before .before .before .before .args .table .now) (c .before .before .before .before .pre)
 
-enum-known-e-10 : tie.Need-enum-known-e-10
-enum-known-e-10 c = search needs
+enum-known-e-7 : tie.Need-enum-known-e-7
+enum-known-e-7 c = search needs
 
 connection-requires : tie.Need-connection-requires
 connection-requires c κs = sound-length (c .before .before .before .before .args .table .now) (c .before .before .before .before .pre)
@@ -74,52 +59,40 @@ enum-told-2 : tie.Need-enum-told-2
 enum-told-2 c = search needs
 
 returns : tie.Need-returns
-unfolding judge told
-returns c = by-case (c .before .before .before .args .table .now) (c .before .before .before .args .count) _ (c .before .before .before .args .e) _ (c .enum-told .given .1) refl
+unfolding judge
+returns c = let a = c .before .before .before .args in by-case (a .table .now) (a .count) _ (a .e) _ (c .enum-told .given .1) refl
 
 returns-2 : tie.Need-returns-2
-unfolding judge told
-returns-2 c = by-case (c .before .before .before .before .before .args .table .now) (c .before .before .before .before .before .args .count) _ (c .before .before .before .before .before .args .e) _ (c .before .before .e .given .1) (c .wanted .ensures)
+unfolding judge
+returns-2 c = let a = c .before .before .before .before .before .args in by-case (a .table .now) (a .count) _ (a .e) _ (c .before .before .e .given .1) (c .absent-refusal .ensures)
 
 returns-3 : tie.Need-returns-3
-unfolding judge told
-returns-3 c = by-case (c .before .before .before .before .before .args .table .now) (c .before .before .before .before .before .args .count) _ (c .before .before .before .before .before .args .e) _ (c .before .before .e2 .given .1) (c .attachment .ensures)
+unfolding judge
+returns-3 c = let a = c .before .before .before .before .before .args in by-case (a .table .now) (a .count) _ (a .e) _ (c .before .before .e2 .given .1) (c .attachment .ensures)
 
 returns-4 : tie.Need-returns-4
-unfolding judge told
-returns-4 c = by-case (c .before .before .before .before .before .args .table .now) (c .before .before .before .before .before .args .count) _ (c .before .before .before .before .before .args .e) _ (c .before .before .e3 .given .1) (c .virtual-attachment .ensures)
+unfolding judge
+returns-4 c = let a = c .before .before .before .before .before .args in by-case (a .table .now) (a .count) _ (a .e) _ (c .before .before .e3 .given .1) (c .virtual-attachment .ensures)
 
 returns-5 : tie.Need-returns-5
-unfolding judge told
-returns-5 c = by-case (c .before .before .before .before .before .args .table .now) (c .before .before .before .before .before .args .count) _ (c .before .before .before .before .before .args .e) _ (c .before .before .e4 .given .1) (c .wanted2 .ensures)
+unfolding judge
+returns-5 c = let a = c .before .before .before .before .before .args in by-case (a .table .now) (a .count) _ (a .e) _ (c .before .before .e4 .given .1) (c .absent-refusal2 .ensures)
 
 returns-6 : tie.Need-returns-6
-unfolding judge told
-returns-6 c = by-case (c .before .before .before .before .before .args .table .now) (c .before .before .before .before .before .args .count) _ (c .before .before .before .before .before .args .e) _ (c .before .before .e5 .given .1) (c .wanted3 .ensures)
+unfolding judge
+returns-6 c = let a = c .before .before .before .before .before .before .args in by-case (a .table .now) (a .count) _ (a .e) _ (c .before .before .before .e5 .given .1) (c .value .ensures ∙ ap (λ (l : ValueLookup). judgeValue l (a .count)) (c .before .value-lookup .ensures .0))
 
 returns-7 : tie.Need-returns-7
-unfolding judge told
-returns-7 c = by-case (c .before .before .before .before .before .args .table .now) (c .before .before .before .before .before .args .count) _ (c .before .before .before .before .before .args .e) _ (c .before .before .e6 .given .1) (c .wanted4 .ensures)
+unfolding judge
+returns-7 c = let a = c .before .before .before .before .before .args in by-case (a .table .now) (a .count) _ (a .e) _ (c .before .before .e6 .given .1) (c .disconnection .ensures)
 
 returns-8 : tie.Need-returns-8
-unfolding judge told
-returns-8 c = by-case (c .before .before .before .before .before .args .table .now) (c .before .before .before .before .before .args .count) _ (c .before .before .before .before .before .args .e) _ (c .before .before .e7 .given .1) (c .wanted5 .ensures)
+unfolding judge
+returns-8 c = let a = c .before .before .before .before .before .args in by-case (a .table .now) (a .count) _ (a .e) _ (c .before .before .e7 .given .1) (c .connection .ensures)
 
 returns-9 : tie.Need-returns-9
-unfolding judge told
-returns-9 c = by-case (c .before .before .before .before .before .args .table .now) (c .before .before .before .before .before .args .count) _ (c .before .before .before .before .before .args .e) _ (c .before .before .e8 .given .1) (c .value .ensures)
-
-returns-10 : tie.Need-returns-10
-unfolding judge told
-returns-10 c = by-case (c .before .before .before .before .before .args .table .now) (c .before .before .before .before .before .args .count) _ (c .before .before .before .before .before .args .e) _ (c .before .before .e9 .given .1) (c .disconnection .ensures)
-
-returns-11 : tie.Need-returns-11
-unfolding judge told
-returns-11 c = by-case (c .before .before .before .before .before .args .table .now) (c .before .before .before .before .before .args .count) _ (c .before .before .before .before .before .args .e) _ (c .before .before .e10 .given .1) (c .connection .ensures)
-
-returns-12 : tie.Need-returns-12
-unfolding judge told
-returns-12 c = by-case (c .before .before .before .args .table .now) (c .before .before .before .args .count) _ (c .before .before .before .args .e) _ (c .enum-told2 .given .1) refl
+unfolding judge
+returns-9 c = let a = c .before .before .before .args in by-case (a .table .now) (a .count) _ (a .e) _ (c .enum-told2 .given .1) refl
 
 pub judged-spec : {M : Type 1} → statement M
 judged-spec =
@@ -127,24 +100,19 @@ judged-spec =
     (tie.spec
     enum-told
     enum-known-e
-    wanted-requires
+    absent-refusal-requires
     enum-known-e-2
     attachment-requires
     enum-known-e-3
     virtual-attachment-requires
     enum-known-e-4
-    wanted-requires-2
+    absent-refusal-requires-2
     enum-known-e-5
-    wanted-requires-3
-    enum-known-e-6
-    wanted-requires-4
-    enum-known-e-7
-    wanted-requires-5
-    enum-known-e-8
+    value-lookup-requires
     value-requires
-    enum-known-e-9
+    enum-known-e-6
     disconnection-requires
-    enum-known-e-10
+    enum-known-e-7
     connection-requires
     enum-told-2
     returns
@@ -155,7 +123,4 @@ judged-spec =
     returns-6
     returns-7
     returns-8
-    returns-9
-    returns-10
-    returns-11
-    returns-12)
+    returns-9)

@@ -1,9 +1,10 @@
-use mathlib.Core.Path.{sym, _∙_}
-use Rattle.rules.specs.Judge.{present, goodPair, room}
-use Rattle.rules.specs.Table.{viewOfTable, fullTable}
-use Rattle.rules.specs.Cells.{tableAt}
-use Rattle.table.proofs.Records.{attached-11, attached-12, attached-13}
+use mathlib.Core.Path.{_≡_, refl, sym, _∙_, ap}
 use borrow.Author.Needs.{needs}
+use Rattle.rules.specs.Cells.{tableAt}
+use Rattle.rules.specs.Judge.{judge, present, pairTest, refusalIfFull, presentUnjoined, judgeDisconnect, widthOf, judgeValue}
+use Rattle.rules.specs.Offer.{viewOfCells}
+use Rattle.rules.specs.Table.{fullTable}
+use Rattle.table.proofs.Records.{known-at, unjoined-at, disconnect-at, first-fails, second-fails, third-decides, physical-kind, virtual-kind, by-case, attached-11, attached-12, attached-13}
 use Rattle.table.proofs.judge.virtual_attachment.Statement.{statement}
 use Rattle.table.proofs.judge.virtual_attachment.Tie as tie
 
@@ -11,19 +12,28 @@ is-present-requires : tie.Need-is-present-requires
 is-present-requires c κs = search needs
 
 returns : tie.Need-returns
-returns c = sym (attached-11 (present (viewOfTable (tableAt (c .before .before .before .args .table .now))) (c .before .before .before .args .port)) (goodPair (viewOfTable (tableAt (c .before .before .before .args .table .now))) (c .before .before .before .args .a) (c .before .before .before .args .b)) (room (fullTable (tableAt (c .before .before .before .args .table .now)))) (sym (c .before .is-present .ensures) ∙ c .if1 .taken))
+returns c = 
+    let a = c .before .before .before .args in
+    let view = viewOfCells (a .table .now) in
+    sym (attached-11 (present view (a .port)) (pairTest view (a .a) (a .b)) (refusalIfFull (fullTable (tableAt (a .table .now)))) (sym (c .before .is-present .ensures) ∙ c .if1 .taken))
 
-is-good-pair-requires : tie.Need-is-good-pair-requires
-is-good-pair-requires c κs = search needs
+is-pair-requires : tie.Need-is-pair-requires
+is-pair-requires c κs = search needs
 
-room-for-one-requires : tie.Need-room-for-one-requires
-room-for-one-requires c κs = search needs
+full-refusal-requires : tie.Need-full-refusal-requires
+full-refusal-requires c κs = search needs
 
 returns-2 : tie.Need-returns-2
-returns-2 c = c .room-for-one .ensures ∙ sym (attached-13 (present (viewOfTable (tableAt (c .before .before .before .before .before .before .args .table .now))) (c .before .before .before .before .before .before .args .port)) (goodPair (viewOfTable (tableAt (c .before .before .before .before .before .before .args .table .now))) (c .before .before .before .before .before .before .args .a) (c .before .before .before .before .before .before .args .b)) (room (fullTable (tableAt (c .before .before .before .before .before .before .args .table .now)))) (sym (c .before .before .before .before .is-present .ensures) ∙ c .before .before .before .if1 .left) (sym (c .before .before .is-good-pair .ensures) ∙ c .before .if2 .taken))
+returns-2 c = 
+    let a = c .before .before .before .before .before .before .args in
+    let view = viewOfCells (a .table .now) in
+    c .full-refusal .ensures ∙ sym (attached-13 (present view (a .port)) (pairTest view (a .a) (a .b)) (refusalIfFull (fullTable (tableAt (a .table .now)))) (sym (c .before .before .before .before .is-present .ensures) ∙ c .before .before .before .if1 .left) (sym (c .before .before .is-pair .ensures) ∙ c .before .if2 .taken))
 
 returns-3 : tie.Need-returns-3
-returns-3 c = sym (attached-12 (present (viewOfTable (tableAt (c .before .before .before .before .before .args .table .now))) (c .before .before .before .before .before .args .port)) (goodPair (viewOfTable (tableAt (c .before .before .before .before .before .args .table .now))) (c .before .before .before .before .before .args .a) (c .before .before .before .before .before .args .b)) (room (fullTable (tableAt (c .before .before .before .before .before .args .table .now)))) (sym (c .before .before .before .is-present .ensures) ∙ c .before .before .if1 .left) (sym (c .before .is-good-pair .ensures) ∙ c .if2 .left))
+returns-3 c = 
+    let a = c .before .before .before .before .before .args in
+    let view = viewOfCells (a .table .now) in
+    sym (attached-12 (present view (a .port)) (pairTest view (a .a) (a .b)) (refusalIfFull (fullTable (tableAt (a .table .now)))) (sym (c .before .before .before .is-present .ensures) ∙ c .before .before .if1 .left) (sym (c .before .is-pair .ensures) ∙ c .if2 .left))
 
 pub virtual-attachment-spec : {M : Type 1} → statement M
 virtual-attachment-spec =
@@ -31,7 +41,7 @@ virtual-attachment-spec =
     (tie.spec
     is-present-requires
     returns
-    is-good-pair-requires
-    room-for-one-requires
+    is-pair-requires
+    full-refusal-requires
     returns-2
     returns-3)

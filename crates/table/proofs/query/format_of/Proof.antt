@@ -1,45 +1,65 @@
 use native.Mathlib.Omega.{arith}
-use mathlib.Core.Path.{sym, _∙_, ap}
 use mathlib.Core.Option.{Option}
-use Rattle.rules.specs.Facts.{Facts}
-use Rattle.rules.proofs.CellsSound.{sound-length}
-use Rattle.table.specs.Place.{factsAt}
-use Rattle.table.specs.Query.{formatAnswer, formatIn}
-use Rattle.table.proofs.Places.{nowhere}
-use Rattle.table.proofs.Queries.{format-sound, no-format, the-format}
+use mathlib.Core.Path.{_≡_, refl, sym, _∙_, ap, subst}
 use borrow.Author.Needs.{needs}
+use Rattle.rules.proofs.CellsSound.{sound-length}
+use Rattle.rules.specs.Answer.{Answer, accepted}
+use Rattle.rules.specs.Facts.{Facts}
+use Rattle.rules.specs.declared.Format.{Format}
+use Rattle.soundness.proofs.Places.{found, nowhere}
+use Rattle.soundness.specs.Place.{factsAt, cellOf}
+use Rattle.table.proofs.Queries.{port-sound, format-sound, setup-some, wiring-unjoined, wiring-joined, wiring-virtual, partners-small, answered-fits, asked-fits, port-at, no-format, the-format}
+use Rattle.table.specs.FormatAnswer.{formatFrom}
 use Rattle.table.proofs.query.format_of.Statement.{statement}
 use Rattle.table.proofs.query.format_of.Tie as tie
 
 find-requires : tie.Need-find-requires
-find-requires c κs = sound-length (c .before .args .table .now) (c .before .pre)
+find-requires c κs = search needs
 
 returns : tie.Need-returns
-returns c = sym (ap (λ (x : Option Facts). formatAnswer (formatIn x (c .before .before .before .args .mode))) (c .before .find .ensures .1 ∙ ap (factsAt (c .before .before .before .args .table .now)) (c .if1 .taken) ∙ nowhere (c .before .before .before .args .table .now))) ∙ sym (format-sound (c .before .before .before .args .table .now) (c .before .before .before .args .port) (c .before .before .before .args .mode) (c .before .before .before .pre))
+returns c = 
+    let a = c .before .before .before .args in
+    let cells = a .table .now in
+    let ok = c .before .before .before .pre in
+    let i = c .before .find .result in
+    let is = found cells (sound-length cells ok) (a .port) i (c .before .find .ensures .1) in
+    sym (ap (λ (x : Option Facts). accepted (formatFrom x (a .mode))) (is ∙ ap (factsAt cells) (c .if1 .taken) ∙ nowhere cells)) ∙ sym (format-sound cells (a .port) (a .mode) ok)
 
 returns-2 : tie.Need-returns-2
-returns-2 c = sym (ap formatAnswer (no-format (c .before .before .before .before .args .table .now) (c .before .before .find .result) (c .before .before .before .before .args .port) (c .before .before .before .before .pre) (omega (arith, c .before .before .find .ensures .0, c .before .if1 .left)) (c .before .before .find .ensures .1) (c .before .before .before .before .args .mode) (c .if2 .taken))) ∙ sym (format-sound (c .before .before .before .before .args .table .now) (c .before .before .before .before .args .port) (c .before .before .before .before .args .mode) (c .before .before .before .before .pre))
+returns-2 c = 
+    let a = c .before .before .before .before .args in
+    let cells = a .table .now in
+    let ok = c .before .before .before .before .pre in
+    let i = c .before .before .find .result in
+    let is = found cells (sound-length cells ok) (a .port) i (c .before .before .find .ensures .1) in
+    sym (ap (λ (f : Option Format). accepted f) (no-format cells i (a .port) ok (omega (arith, c .before .before .find .ensures .0, c .before .if1 .left)) is (a .mode) (c .if2 .taken))) ∙ sym (format-sound cells (a .port) (a .mode) ok)
 
-mul-format-in : tie.Need-mul-format-in
-mul-format-in c = search needs
+mul-known-format : tie.Need-mul-known-format
+mul-known-format c = search needs
 
-add-format-in : tie.Need-add-format-in
-add-format-in c = search needs
+add-known-format : tie.Need-add-known-format
+add-known-format c = search needs
 
-add-format-in-2 : tie.Need-add-format-in-2
-add-format-in-2 c = search needs
+add-known-format-2 : tie.Need-add-known-format-2
+add-known-format-2 c = search needs
 
-mul-format-in-2 : tie.Need-mul-format-in-2
-mul-format-in-2 c = search needs
+mul-known-format-2 : tie.Need-mul-known-format-2
+mul-known-format-2 c = search needs
 
-shared-slice-read-format-in : tie.Need-shared-slice-read-format-in
-shared-slice-read-format-in c = omega (arith, sound-length (c .before .before .before .before .before .args .table .now) (c .before .before .before .before .before .pre), c .before .before .before .find .ensures .0, c .before .before .if1 .left, c .before .if2 .left)
+shared-slice-read-known-format : tie.Need-shared-slice-read-known-format
+shared-slice-read-known-format c = let a = c .before .before .before .before .before .args in omega (arith, sound-length (a .table .now) (c .before .before .before .before .before .pre), c .before .before .before .find .ensures .0, c .before .before .if1 .left, c .before .if2 .left)
 
-format-in-requires : tie.Need-format-in-requires
-format-in-requires c κs = search needs
+known-format-requires : tie.Need-known-format-requires
+known-format-requires c κs = search needs
 
 returns-3 : tie.Need-returns-3
-returns-3 c = c .format-in .ensures ∙ sym (ap formatAnswer (the-format (c .before .before .before .before .before .before .args .table .now) (c .before .before .before .before .find .result) (c .before .before .before .before .before .before .args .port) (c .before .before .before .before .before .before .pre) (omega (arith, c .before .before .before .before .find .ensures .0, c .before .before .before .if1 .left)) (c .before .before .before .before .find .ensures .1) (c .before .before .before .before .before .before .args .mode) (c .before .before .if2 .left))) ∙ sym (format-sound (c .before .before .before .before .before .before .args .table .now) (c .before .before .before .before .before .before .args .port) (c .before .before .before .before .before .before .args .mode) (c .before .before .before .before .before .before .pre))
+returns-3 c = 
+    let a = c .before .before .before .before .before .before .args in
+    let cells = a .table .now in
+    let ok = c .before .before .before .before .before .before .pre in
+    let i = c .before .before .before .before .find .result in
+    let is = found cells (sound-length cells ok) (a .port) i (c .before .before .before .before .find .ensures .1) in
+    c .known-format .ensures ∙ sym (ap (λ (f : Option Format). accepted f) (the-format cells i (a .port) ok (omega (arith, c .before .before .before .before .find .ensures .0, c .before .before .before .if1 .left)) is (a .mode) (c .before .before .if2 .left))) ∙ sym (format-sound cells (a .port) (a .mode) ok)
 
 pub format-of-spec : {M : Type 1} → statement M
 format-of-spec =
@@ -48,10 +68,10 @@ format-of-spec =
     find-requires
     returns
     returns-2
-    mul-format-in
-    add-format-in
-    add-format-in-2
-    mul-format-in-2
-    shared-slice-read-format-in
-    format-in-requires
+    mul-known-format
+    add-known-format
+    add-known-format-2
+    mul-known-format-2
+    shared-slice-read-known-format
+    known-format-requires
     returns-3)

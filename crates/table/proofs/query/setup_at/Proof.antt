@@ -1,10 +1,11 @@
-use Prim.Native.Nat.{ℕ, _+_}
+use Prim.Native.Nat.{ℕ, _+_, _*_, _-_, _≤_, _<_}
 use native.Mathlib.Omega.{arith}
-use mathlib.Core.Path.{sym, ap}
-use lib.ListN.{getD}
-use Rattle.rules.specs.Cells.{setupAt}
-use Rattle.table.proofs.Queries.{setup-some, small-setup}
+use mathlib.Core.Path.{_≡_, refl, sym, _∙_, ap, subst}
 use borrow.Author.Needs.{needs}
+use lib.ListN.{length, getD}
+use Rattle.rules.specs.Cells.{setupAt, firstPartner, secondPartner, formatBytes}
+use Rattle.table.proofs.Lookups.{small-setup, state-small, mode-small, format-listed, lookup-10, lookup-14, lookup-15, lookup-found, format-none, format-some, positive}
+use Rattle.table.proofs.Queries.{port-sound, format-sound, setup-some, wiring-unjoined, wiring-joined, wiring-virtual, partners-small, answered-fits, asked-fits, port-at, no-format, the-format}
 use Rattle.table.proofs.query.setup_at.Statement.{statement}
 use Rattle.table.proofs.query.setup_at.Tie as tie
 
@@ -15,13 +16,13 @@ shared-slice-read-mode : tie.Need-shared-slice-read-mode
 shared-slice-read-mode c = search needs
 
 returns : tie.Need-returns
-returns c = sym (ap (λ (m : ℕ). setupAt m (getD (c .before .before .args .table .now) (c .before .before .args .at + 1) 0) (getD (c .before .before .args .table .now) (c .before .before .args .at + 2) 0)) (c .if1 .taken))
+returns c = let a = c .before .before .args in let t = a .table .now in sym (ap (λ (m : ℕ). setupAt m (getD t (a .at + 1) 0) (getD t (a .at + 2) 0)) (c .if1 .taken))
 
 sub-t6 : tie.Need-sub-t6
 sub-t6 c = search needs
 
 cast-t8 : tie.Need-cast-t8
-cast-t8 c = record { fits = omega (arith, small-setup (getD (c .before .before .args .table .now) (c .before .before .args .at) 0) (getD (c .before .before .args .table .now) (c .before .before .args .at + 1) 0) (getD (c .before .before .args .table .now) (c .before .before .args .at + 2) 0) (c .if1 .left) (c .before .before .pre .2) .mode, small-setup (getD (c .before .before .args .table .now) (c .before .before .args .at) 0) (getD (c .before .before .args .table .now) (c .before .before .args .at + 1) 0) (getD (c .before .before .args .table .now) (c .before .before .args .at + 2) 0) (c .if1 .left) (c .before .before .pre .2) .notify) }
+cast-t8 c = let a = c .before .before .args in let t = a .table .now in let k = small-setup (getD t (a .at) 0) (getD t (a .at + 1) 0) (getD t (a .at + 2) 0) (c .if1 .left) (c .before .before .pre .2) in record { fits = omega (arith, k .mode) }
 
 add-t4 : tie.Need-add-t4
 add-t4 c = search needs
@@ -42,10 +43,10 @@ shared-slice-read-t15 : tie.Need-shared-slice-read-t15
 shared-slice-read-t15 c = search needs
 
 cast-t16 : tie.Need-cast-t16
-cast-t16 c = record { fits = omega (arith, small-setup (getD (c .before .before .before .before .args .table .now) (c .before .before .before .before .args .at) 0) (getD (c .before .before .before .before .args .table .now) (c .before .before .before .before .args .at + 1) 0) (getD (c .before .before .before .before .args .table .now) (c .before .before .before .before .args .at + 2) 0) (c .before .before .if1 .left) (c .before .before .before .before .pre .2) .mode, small-setup (getD (c .before .before .before .before .args .table .now) (c .before .before .before .before .args .at) 0) (getD (c .before .before .before .before .args .table .now) (c .before .before .before .before .args .at + 1) 0) (getD (c .before .before .before .before .args .table .now) (c .before .before .before .before .args .at + 2) 0) (c .before .before .if1 .left) (c .before .before .before .before .pre .2) .notify) }
+cast-t16 c = let a = c .before .before .before .before .args in let t = a .table .now in let k = small-setup (getD t (a .at) 0) (getD t (a .at + 1) 0) (getD t (a .at + 2) 0) (c .before .before .if1 .left) (c .before .before .before .before .pre .2) in record { fits = omega (arith, k .notify) }
 
 returns-2 : tie.Need-returns-2
-returns-2 c = setup-some (getD (c .before .before .before .before .args .table .now) (c .before .before .before .before .args .at) 0) (getD (c .before .before .before .before .args .table .now) (c .before .before .before .before .args .at + 1) 0) (getD (c .before .before .before .before .args .table .now) (c .before .before .before .before .args .at + 2) 0) (c .before .before .if1 .left)
+returns-2 c = let a = c .before .before .before .before .args in let t = a .table .now in setup-some (getD t (a .at) 0) (getD t (a .at + 1) 0) (getD t (a .at + 2) 0) (c .before .before .if1 .left)
 
 pub setup-at-spec : {M : Type 1} → statement M
 setup-at-spec =

@@ -1,99 +1,128 @@
-use Prim.Native.Nat.{_+_, _*_, _<_}
+use Prim.Native.Nat.{ℕ, _+_, _*_, _-_, _≤_, _<_}
 use native.Mathlib.Omega.{arith}
-use mathlib.Core.Path.{sym, subst}
-use lib.ListN.{getD}
-use Rattle.rules.specs.Facts.{Wiring}
-use Rattle.rules.specs.Cells.{firstPartner, secondPartner}
-use Rattle.table.proofs.Queries.{wiring-unjoined, wiring-joined, wiring-virtual}
+use mathlib.Core.Path.{_≡_, refl, sym, _∙_, ap, subst}
 use borrow.Author.Needs.{needs}
+use Rattle.rules.specs.Cells.{setupAt, firstPartner, secondPartner, formatBytes}
+use Rattle.rules.specs.Layout.{portCount, stride, wiringIndex, firstIndex, secondIndex, answeredIndex, stateIndex, formatsIndex}
+use Rattle.rules.specs.declared.Wiring.{Wiring}
+use Rattle.soundness.specs.Place.{factsAt, cellOf}
+use Rattle.table.proofs.Queries.{port-sound, format-sound, setup-some, wiring-unjoined, wiring-joined, wiring-virtual, partners-small, answered-fits, asked-fits, port-at, no-format, the-format}
 use Rattle.table.proofs.query.wiring_at.Statement.{statement}
 use Rattle.table.proofs.query.wiring_at.Tie as tie
 
-mul-match : tie.Need-mul-match
-mul-match c = search needs
+mul-kind : tie.Need-mul-kind
+mul-kind c = search needs
 
-mul-match-2 : tie.Need-mul-match-2
-mul-match-2 c = search needs
+add-kind : tie.Need-add-kind
+add-kind c = search needs
 
-shared-slice-read-match : tie.Need-shared-slice-read-match
-shared-slice-read-match c = search needs
+mul-kind-2 : tie.Need-mul-kind-2
+mul-kind-2 c = search needs
 
-mul-t9 : tie.Need-mul-t9
-mul-t9 c = search needs
-
-add-t10 : tie.Need-add-t10
-add-t10 c = search needs
-
-mul-t11 : tie.Need-mul-t11
-mul-t11 c = search needs
-
-shared-slice-read-t13 : tie.Need-shared-slice-read-t13
-shared-slice-read-t13 c = search needs
-
-cast-t14 : tie.Need-cast-t14
-cast-t14 c = record { fits = omega (arith, subst (λ (w : Wiring). firstPartner w < 256) (wiring-joined (getD (c .before .before .before .args .table .now) (28 * c .before .before .before .args .place) 0) (getD (c .before .before .before .args .table .now) (28 * c .before .before .before .args .place + 3) 0) (getD (c .before .before .before .args .table .now) (28 * c .before .before .before .args .place + 4) 0) (c .before .match .keys2)) (c .before .before .before .pre .2)) }
-
-mul-t15 : tie.Need-mul-t15
-mul-t15 c = search needs
-
-add-t16 : tie.Need-add-t16
-add-t16 c = search needs
-
-mul-t17 : tie.Need-mul-t17
-mul-t17 c = search needs
-
-shared-slice-read-t19 : tie.Need-shared-slice-read-t19
-shared-slice-read-t19 c = search needs
-
-cast-t20 : tie.Need-cast-t20
-cast-t20 c = record { fits = omega (arith, subst (λ (w : Wiring). firstPartner w < 256) (wiring-virtual (getD (c .before .before .before .args .table .now) (28 * c .before .before .before .args .place) 0) (getD (c .before .before .before .args .table .now) (28 * c .before .before .before .args .place + 3) 0) (getD (c .before .before .before .args .table .now) (28 * c .before .before .before .args .place + 4) 0) (c .before .match .rest .0 .1) (c .before .match .rest .1)) (c .before .before .before .pre .2)) }
-
-mul-t21 : tie.Need-mul-t21
-mul-t21 c = search needs
-
-add-t22 : tie.Need-add-t22
-add-t22 c = search needs
-
-mul-t23 : tie.Need-mul-t23
-mul-t23 c = search needs
-
-shared-slice-read-t25 : tie.Need-shared-slice-read-t25
-shared-slice-read-t25 c = search needs
-
-cast-t26 : tie.Need-cast-t26
-cast-t26 c = record { fits = omega (arith, subst (λ (w : Wiring). secondPartner w < 256) (wiring-virtual (getD (c .before .before .before .before .args .table .now) (28 * c .before .before .before .before .args .place) 0) (getD (c .before .before .before .before .args .table .now) (28 * c .before .before .before .before .args .place + 3) 0) (getD (c .before .before .before .before .args .table .now) (28 * c .before .before .before .before .args .place + 4) 0) (c .before .before .match .rest .0 .1) (c .before .before .match .rest .1)) (c .before .before .before .before .pre .3)) }
+shared-slice-read-kind : tie.Need-shared-slice-read-kind
+shared-slice-read-kind c = search needs
 
 returns : tie.Need-returns
-returns c = sym (wiring-unjoined (getD (c .before .before .args .table .now) (28 * c .before .before .args .place) 0) (getD (c .before .before .args .table .now) (28 * c .before .before .args .place + 3) 0) (getD (c .before .before .args .table .now) (28 * c .before .before .args .place + 4) 0) (c .match .keys1))
+returns c = 
+    let a = c .before .before .args in
+    let t = a .table .now in
+    let i = a .place in
+    sym (wiring-unjoined (cellOf t i wiringIndex) (cellOf t i firstIndex) (cellOf t i secondIndex) (c .if1 .taken))
+
+mul-t10 : tie.Need-mul-t10
+mul-t10 c = search needs
+
+add-t11 : tie.Need-add-t11
+add-t11 c = search needs
+
+mul-t12 : tie.Need-mul-t12
+mul-t12 c = search needs
+
+shared-slice-read-t14 : tie.Need-shared-slice-read-t14
+shared-slice-read-t14 c = search needs
+
+cast-t15 : tie.Need-cast-t15
+cast-t15 c = 
+    let a = c .before .before .before .before .args in
+    let t = a .table .now in
+    let i = a .place in
+    record { fits = omega (arith, subst (λ (w : Wiring). firstPartner w < portCount) (wiring-joined (cellOf t i wiringIndex) (cellOf t i firstIndex) (cellOf t i secondIndex) (c .before .if2 .taken)) (c .before .before .before .before .pre .2)) }
 
 returns-2 : tie.Need-returns-2
-returns-2 c = sym (wiring-joined (getD (c .before .before .before .args .table .now) (28 * c .before .before .before .args .place) 0) (getD (c .before .before .before .args .table .now) (28 * c .before .before .before .args .place + 3) 0) (getD (c .before .before .before .args .table .now) (28 * c .before .before .before .args .place + 4) 0) (c .before .match .keys2))
+returns-2 c = 
+    let a = c .before .before .before .before .args in
+    let t = a .table .now in
+    let i = a .place in
+    sym (wiring-joined (cellOf t i wiringIndex) (cellOf t i firstIndex) (cellOf t i secondIndex) (c .before .if2 .taken))
+
+mul-t4 : tie.Need-mul-t4
+mul-t4 c = search needs
+
+add-t5 : tie.Need-add-t5
+add-t5 c = search needs
+
+mul-t6 : tie.Need-mul-t6
+mul-t6 c = search needs
+
+shared-slice-read-t8 : tie.Need-shared-slice-read-t8
+shared-slice-read-t8 c = search needs
+
+cast-t17 : tie.Need-cast-t17
+cast-t17 c = 
+    let a = c .before .before .before .before .args in
+    let t = a .table .now in
+    let i = a .place in
+    record { fits = omega (arith, subst (λ (w : Wiring). firstPartner w < portCount) (wiring-virtual (cellOf t i wiringIndex) (cellOf t i firstIndex) (cellOf t i secondIndex) (c .before .before .if1 .left) (c .before .if2 .left)) (c .before .before .before .before .pre .2)) }
+
+mul-t18 : tie.Need-mul-t18
+mul-t18 c = search needs
+
+add-t19 : tie.Need-add-t19
+add-t19 c = search needs
+
+mul-t20 : tie.Need-mul-t20
+mul-t20 c = search needs
+
+shared-slice-read-t22 : tie.Need-shared-slice-read-t22
+shared-slice-read-t22 c = search needs
+
+cast-t23 : tie.Need-cast-t23
+cast-t23 c = 
+    let a = c .before .before .before .before .before .args in
+    let t = a .table .now in
+    let i = a .place in
+    record { fits = omega (arith, subst (λ (w : Wiring). secondPartner w < portCount) (wiring-virtual (cellOf t i wiringIndex) (cellOf t i firstIndex) (cellOf t i secondIndex) (c .before .before .before .if1 .left) (c .before .before .if2 .left)) (c .before .before .before .before .before .pre .3)) }
 
 returns-3 : tie.Need-returns-3
-returns-3 c = sym (wiring-virtual (getD (c .before .before .before .before .args .table .now) (28 * c .before .before .before .before .args .place) 0) (getD (c .before .before .before .before .args .table .now) (28 * c .before .before .before .before .args .place + 3) 0) (getD (c .before .before .before .before .args .table .now) (28 * c .before .before .before .before .args .place + 4) 0) (c .before .before .match .rest .0 .1) (c .before .before .match .rest .1))
+returns-3 c = 
+    let a = c .before .before .before .before .before .args in
+    let t = a .table .now in
+    let i = a .place in
+    sym (wiring-virtual (cellOf t i wiringIndex) (cellOf t i firstIndex) (cellOf t i secondIndex) (c .before .before .before .if1 .left) (c .before .before .if2 .left))
 
 pub wiring-at-spec : {M : Type 1} → statement M
 wiring-at-spec =
     tie.close
     (tie.spec
-    mul-match
-    mul-match-2
-    shared-slice-read-match
-    mul-t9
-    add-t10
-    mul-t11
-    shared-slice-read-t13
-    cast-t14
-    mul-t15
-    add-t16
-    mul-t17
-    shared-slice-read-t19
-    cast-t20
-    mul-t21
-    add-t22
-    mul-t23
-    shared-slice-read-t25
-    cast-t26
+    mul-kind
+    add-kind
+    mul-kind-2
+    shared-slice-read-kind
     returns
+    mul-t10
+    add-t11
+    mul-t12
+    shared-slice-read-t14
+    cast-t15
     returns-2
+    mul-t4
+    add-t5
+    mul-t6
+    shared-slice-read-t8
+    cast-t17
+    mul-t18
+    add-t19
+    mul-t20
+    shared-slice-read-t22
+    cast-t23
     returns-3)
