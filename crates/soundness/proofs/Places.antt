@@ -3,16 +3,17 @@ use Prim.Native.Nat.{ℕ, zero, suc, _+_, _*_, _-_, _≤_, _<_}
 use native.Mathlib.Nat.{zero-add, add-zero}
 use native.Mathlib.Omega.{arith}
 use mathlib.Core.Path.{_≡_, refl, sym, _∙_, ap}
-use mathlib.Core.Bool.{Bool, true, false, cond}
+use mathlib.Core.Bool.{Bool, true, false, cond, not}
 use mathlib.Core.List.{List, [], _∷_}
-use mathlib.Core.Option.{none, some}
+use mathlib.Core.Option.{Option, none, some}
 use mathlib.Core.Logic.{⊎-elim}
-use borrow.Author.Tests.{eqb-true, eqb-false, eq-eqb, ne-eqb, lt-ltb}
+use borrow.Author.Tests.{eqb-true, eqb-false, eq-eqb, ne-eqb, lt-ltb, le-ltb}
 use lib.Dec.{eqb, eqb·suc-suc}
-use lib.ListN.{length, getD, drop}
-use lib.Seq.{getD-take, getD-drop, drop-drop}
+use lib.ListN.{length, getD, drop, length-drop}
+use lib.Seq.{getD-take, getD-drop, drop-drop, length-take-le}
 use Rattle.protocol.proofs.Tests.{which}
 use Rattle.rules.specs.Layout.{places, stride, tableSize, wiringIndex, portIndex}
+use Rattle.rules.specs.Facts.{Facts, known}
 use Rattle.rules.specs.Table.{Record, Table, viewOfTable, fullTable}
 use Rattle.rules.specs.Cells.{recordAt, placeAt, placesAt, tableAt}
 use Rattle.soundness.specs.Place.{placeAtIndex, cellOf, factsAt, portAt, placeOf, firstFree, findPlace, freePlace, fromPlace}
@@ -27,6 +28,9 @@ next cells i h =
     let place : stride * i + stride ≡ stride * (i + 1) = omega arith in
     ap (λ (n : ℕ). placesAt n (drop (stride * i) cells)) more
     ∙ ap (λ (l : List ℕ). placeAt (placeAtIndex cells i) ∷ placesAt (places - (i + 1)) l) (drop-drop stride (stride * i) cells ∙ ap (λ (n : ℕ). drop n cells) place)
+
+pub place-size : (cells : List ℕ) (i : ℕ) → length cells ≡ tableSize → i < places → length (placeAtIndex cells i) ≡ stride
+place-size cells i size h = length-take-le stride (drop (stride * i) cells) (rw length-drop (omega arith))
 
 -- ---- the first of the places left
 
@@ -61,9 +65,19 @@ place-end cells i port h = rw (over i h)
 pub free-end : (cells : List ℕ) (i : ℕ) → places ≤ i → firstFree (fromPlace cells i) ≡ 0
 free-end cells i h = rw (over i h)
 
+-- ---- the facts at a place
+
+module _ (cells : List ℕ) (i : ℕ) where
+  pub facts-some : i < places → factsAt cells i ≡ some (recordAt (placeAtIndex cells i) .facts)
+  unfolding factsAt
+  facts-some h = rw (lt-ltb i places h)
+
+  pub facts-none : places ≤ i → factsAt cells i ≡ none
+  unfolding factsAt
+  facts-none h = rw (le-ltb i places h)
+
 pub nowhere : (cells : List ℕ) → factsAt cells places ≡ none
-unfolding factsAt
-nowhere cells = refl
+nowhere cells = facts-none cells places (omega arith)
 
 -- ---- by the test of a place
 
@@ -105,8 +119,7 @@ module _ (cells : List ℕ) (i port : ℕ) (h : i < places) where
       (which (eqb (cellOf cells i wiringIndex) 0))
 
   pub is-at : portAt cells i port ≡ true → viewOfTable (fromPlace cells i) port ≡ factsAt cells i
-  unfolding factsAt
-  is-at e = let k = own e in ap (λ (t : Table). viewOfTable t port) (k .0) ∙ rw (k .1, lt-ltb i places h)
+  is-at e = let k = own e in ap (λ (t : Table). viewOfTable t port) (k .0) ∙ rw (k .1) (sym (facts-some cells i h))
 
   pub place-here : portAt cells i port ≡ true → placeOf (fromPlace cells i) port ≡ 0
   place-here e = let k = own e in ap (λ (t : Table). placeOf t port) (k .0) ∙ ap (λ (b : Bool). cond b 0 (suc (placeOf (fromPlace cells (i + 1)) port))) (k .1)
@@ -155,6 +168,15 @@ found-from cells port (suc left) i e =
 pub found : (cells : List ℕ) → length cells ≡ tableSize → (port r : ℕ) → r ≡ findPlace cells port → viewOfTable (tableAt cells) port ≡ factsAt cells r
 found cells size port r e =
     from-start cells port ∙ found-from cells port places 0 refl ∙ ap (factsAt cells) (sym (e ∙ find-place cells size port ∙ place-start cells port))
+
+-- in no place from one on, by the place found
+pub not-from : (cells : List ℕ) (port i r : ℕ) → i ≤ places → r ≤ places → r ≡ i + placeOf (fromPlace cells i) port → eqb r places ≡ not (known (viewOfTable (fromPlace cells i) port))
+not-from cells port i r h most e =
+    let is : viewOfTable (fromPlace cells i) port ≡ factsAt cells r = found-from cells port (places - i) i (omega arith) ∙ ap (factsAt cells) (sym e) in
+    ⊎-elim
+    (λ (k : eqb r places ≡ true). k ∙ sym (ap (λ (x : Option Facts). not (known x)) (is ∙ facts-none cells r (omega (arith, eqb-true r places k)))))
+    (λ (k : eqb r places ≡ false). let differs = eqb-false r places k in k ∙ sym (ap (λ (x : Option Facts). not (known x)) (is ∙ facts-some cells r (omega arith))))
+    (which (eqb r places))
 
 -- ---- the lowest free place
 

@@ -2,14 +2,24 @@
 ghost use mathlib.Core.Path.{_≡_};
 ghost use Prim.Native.Nat.{_+_, _≤_, _<_};
 ghost use lib.ListN.{length};
-ghost use Rattle.rules.specs.Layout.{places, tableSize};
-ghost use Rattle.soundness.specs.Place.{fromPlace, portAt, placeOf, findPlace, freePlace};
+ghost use Rattle.rules.specs.Layout.{places, stride, tableSize};
+ghost use Rattle.soundness.specs.Place.{placeAtIndex, fromPlace, portAt, placeOf, findPlace, freePlace};
 use rules::layout::FREE;
 use rules::layout::PLACES;
 use rules::layout::PORT;
 use rules::layout::STRIDE;
 use rules::layout::TABLE_SIZE;
 use rules::layout::WIRING;
+
+// The cells of a place.
+pub(crate) fn place_at(table: &[u32], i: usize) -> &[u32]
+    requires { ⌜ (length (now table) ≡ tableSize) × (i < places) ⌝ }
+    ensures { λ r. ⌜ (now r ≡ placeAtIndex (now (table .entry)) i) × (length (now r) ≡ stride) ⌝ }
+{
+    let at = STRIDE * i;
+    let end = at + STRIDE;
+    &table[at..end]
+}
 
 // Whether the record of a port stands at a place.
 fn is_at(table: &[u32], place: usize, port: u32) -> bool
