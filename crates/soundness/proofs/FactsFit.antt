@@ -5,7 +5,7 @@ use mathlib.Core.Path.{_≡_, refl, sym, _∙_, ap}
 use mathlib.Core.Bool.{Bool, true, cond, _&&_, _||_, and-true}
 use mathlib.Core.List.{List}
 use borrow.Author.Tests.{lt-ltb}
-use lib.Dec.{eqb, leb, ltb, leb·suc-suc, eqb·suc-zero, eqb·suc-suc}
+use lib.Dec.{eqb, leb, leb·suc-suc, eqb·suc-zero, eqb·suc-suc}
 use lib.ListN.{drop}
 use lib.Seq.{getD-take, getD-drop}
 use Rattle.rules.specs.Layout.{modeCount, stateIndex, askedIndex, answeredIndex, formatsIndex}

@@ -15,7 +15,7 @@ use Rattle.protocol.proofs.Tests.{which}
 use Rattle.rules.specs.Layout.{places, stride, tableSize, wiringIndex, portIndex}
 use Rattle.rules.specs.Facts.{Facts, known}
 use Rattle.rules.specs.Table.{Record, Table, viewOfTable, fullTable}
-use Rattle.rules.specs.Cells.{recordAt, placeAt, placesAt, tableAt}
+use Rattle.rules.specs.Cells.{cellAt, recordAt, placeAt, placesAt, tableAt}
 use Rattle.soundness.specs.Place.{placeAtIndex, cellOf, factsAt, portAt, placeOf, firstFree, findPlace, freePlace, fromPlace}
 
 -- a cell of the place at an index
@@ -47,10 +47,6 @@ module _ (cells : List ℕ) (i : ℕ) (h : i < places) where
   pub record-first : (cellOf cells i wiringIndex ≡ 0 → ⊥) → fromPlace cells i ≡ some (recordAt (placeAtIndex cells i)) ∷ fromPlace cells (i + 1)
   record-first used = by-wiring false (ne-eqb (cellOf cells i wiringIndex) 0 used)
 
-its-port : (cells : List ℕ) (i : ℕ) → recordAt (placeAtIndex cells i) .port ≡ cellOf cells i portIndex
-unfolding recordAt
-its-port cells i = cell cells i portIndex (omega arith)
-
 -- ---- no place left
 
 over : (i : ℕ) → places ≤ i → places - i ≡ 0
@@ -81,48 +77,55 @@ nowhere cells = facts-none cells places (omega arith)
 
 -- ---- by the test of a place
 
--- a place without the record of a port
-data Past (t u : Table) (port : ℕ) : Type 0 where
-  free : t ≡ none ∷ u → Past t u port
-  other : (r : Record) → t ≡ some r ∷ u → eqb (r .port) port ≡ false → Past t u port
+-- whether a place has a port's record, and its facts
+abbrev has : ℕ → Option Record → Bool
+has port none = false
+has port (some r) = eqb (r .port) port
 
-view-past : (t u : Table) (port : ℕ) → Past t u port → viewOfTable t port ≡ viewOfTable u port
-view-past t u port (free e) = ap (λ (x : Table). viewOfTable x port) e
-view-past t u port (other r e n) = ap (λ (x : Table). viewOfTable x port) e ∙ ap (λ (b : Bool). cond b (some (r .facts)) (viewOfTable u port)) n
+abbrev factsOf : Option Record → Option Facts
+factsOf none = none
+factsOf (some r) = some (r .facts)
 
-place-past : (t u : Table) (port : ℕ) → Past t u port → placeOf t port ≡ suc (placeOf u port)
-place-past t u port (free e) = ap (λ (x : Table). placeOf x port) e
-place-past t u port (other r e n) = ap (λ (x : Table). placeOf x port) e ∙ ap (λ (b : Bool). cond b 0 (suc (placeOf u port))) n
+-- the first place has it or has not
+place-first : (port : ℕ) (p : Option Record) (t : Table) {b : Bool} → has port p ≡ b → placeOf (p ∷ t) port ≡ cond b 0 (suc (placeOf t port))
+place-first port none t e = ap (λ (b : Bool). cond b 0 (suc (placeOf t port))) e
+place-first port (some r) t e = ap (λ (b : Bool). cond b 0 (suc (placeOf t port))) e
+
+view-first : (port : ℕ) (p : Option Record) (t : Table) {b : Bool} → has port p ≡ b → viewOfTable (p ∷ t) port ≡ cond b (factsOf p) (viewOfTable t port)
+view-first port none t e = ap (λ (b : Bool). cond b none (viewOfTable t port)) e
+view-first port (some r) t e = ap (λ (b : Bool). cond b (some (r .facts)) (viewOfTable t port)) e
 
 module _ (cells : List ℕ) (i port : ℕ) (h : i < places) where
-  past : portAt cells i port ≡ false → Past (fromPlace cells i) (fromPlace cells (i + 1)) port
-  unfolding portAt
-  past e =
-      ⊎-elim
-      (λ (k : eqb (cellOf cells i wiringIndex) 0 ≡ true). free (by-wiring cells i h true k))
-      (λ (k : eqb (cellOf cells i wiringIndex) 0 ≡ false). other (recordAt (placeAtIndex cells i)) (by-wiring cells i h false k) (ap (λ (n : ℕ). eqb n port) (its-port cells i) ∙ rw k at e))
-      (which (eqb (cellOf cells i wiringIndex) 0))
+  its-port : portAt cells i port ≡ has port (placeAt (placeAtIndex cells i))
+  unfolding portAt recordAt
+  its-port =
+      sym (λ j. cond (eqb (cell cells i wiringIndex (omega arith) j) 0) false (eqb (cell cells i portIndex (omega arith) j) port)) ∙ go (eqb (cellAt (placeAtIndex cells i) wiringIndex) 0)
+    where
+      go : (free : Bool) → cond free false (eqb (cellAt (placeAtIndex cells i) portIndex) port) ≡ has port (cond free none (some (recordAt (placeAtIndex cells i))))
+      go true = refl
+      go false = refl
+
+  by-place : {b : Bool} → portAt cells i port ≡ b → placeOf (fromPlace cells i) port ≡ cond b 0 (suc (placeOf (fromPlace cells (i + 1)) port))
+  by-place e = ap (λ (t : Table). placeOf t port) (next cells i h) ∙ place-first port (placeAt (placeAtIndex cells i)) (fromPlace cells (i + 1)) (sym its-port ∙ e)
+
+  by-view : {b : Bool} → portAt cells i port ≡ b → viewOfTable (fromPlace cells i) port ≡ cond b (factsOf (placeAt (placeAtIndex cells i))) (viewOfTable (fromPlace cells (i + 1)) port)
+  by-view e = ap (λ (t : Table). viewOfTable t port) (next cells i h) ∙ view-first port (placeAt (placeAtIndex cells i)) (fromPlace cells (i + 1)) (sym its-port ∙ e)
 
   pub not-at : portAt cells i port ≡ false → viewOfTable (fromPlace cells i) port ≡ viewOfTable (fromPlace cells (i + 1)) port
-  not-at e = view-past (fromPlace cells i) (fromPlace cells (i + 1)) port (past e)
+  not-at e = by-view e
 
   pub place-later : portAt cells i port ≡ false → placeOf (fromPlace cells i) port ≡ suc (placeOf (fromPlace cells (i + 1)) port)
-  place-later e = place-past (fromPlace cells i) (fromPlace cells (i + 1)) port (past e)
-
-  -- the place with the record of a port
-  own : portAt cells i port ≡ true → (fromPlace cells i ≡ some (recordAt (placeAtIndex cells i)) ∷ fromPlace cells (i + 1)) × (eqb (recordAt (placeAtIndex cells i) .port) port ≡ true)
-  unfolding portAt
-  own e =
-      ⊎-elim
-      (λ (k : eqb (cellOf cells i wiringIndex) 0 ≡ true). let z : false ≡ true = rw k at e in let one : _≡_ {A = ℕ} 0 1 = cc in absurd (omega arith))
-      (λ (k : eqb (cellOf cells i wiringIndex) 0 ≡ false). (by-wiring cells i h false k, ap (λ (n : ℕ). eqb n port) (its-port cells i) ∙ rw k at e))
-      (which (eqb (cellOf cells i wiringIndex) 0))
+  place-later e = by-place e
 
   pub is-at : portAt cells i port ≡ true → viewOfTable (fromPlace cells i) port ≡ factsAt cells i
-  is-at e = let k = own e in ap (λ (t : Table). viewOfTable t port) (k .0) ∙ rw (k .1) (sym (facts-some cells i h))
+  is-at e = by-view e ∙ own (eqb (cellAt (placeAtIndex cells i) wiringIndex) 0) (recordAt (placeAtIndex cells i)) (sym its-port ∙ e) ∙ sym (facts-some cells i h)
+    where
+      own : (free : Bool) (r : Record) → has port (cond free none (some r)) ≡ true → factsOf (cond free none (some r)) ≡ some (r .facts)
+      own true r k = let one : _≡_ {A = ℕ} 0 1 = cc in absurd (omega arith)
+      own false r k = refl
 
   pub place-here : portAt cells i port ≡ true → placeOf (fromPlace cells i) port ≡ 0
-  place-here e = let k = own e in ap (λ (t : Table). placeOf t port) (k .0) ∙ ap (λ (b : Bool). cond b 0 (suc (placeOf (fromPlace cells (i + 1)) port))) (k .1)
+  place-here e = by-place e
 
 -- ---- going on from place to place
 

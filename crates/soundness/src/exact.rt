@@ -1,5 +1,4 @@
-// Whether the cells of a place are those of what they stand for. Tests are joined by `&` and `|`, which make them all: of
-// a sound table none fails.
+// Whether the cells of a place are those of what they stand for.
 ghost use mathlib.Core.Path.{_≡_};
 ghost use Prim.Native.Nat.{_+_, _<_};
 ghost use lib.ListN.{length};

@@ -1,4 +1,5 @@
-// Whether a slice of cells is a sound table, and where a port's record stands in it.
+// Whether a slice of cells is a sound table, and where a port's record stands in it. Tests are joined by `&` and `|`,
+// without branches: a sound table passes them all anyway, and the answer is then the definition as it stands.
 ghost use mathlib.Core.Path.{_≡_};
 ghost use Prim.Native.Nat.{_<_};
 ghost use lib.ListN.{length};

@@ -22,14 +22,14 @@ pub(crate) fn place_at(table: &[u32], i: usize) -> &[u32]
 }
 
 // Whether the record of a port stands at a place.
-fn is_at(table: &[u32], place: usize, port: u32) -> bool
-    requires { ⌜ (length (now table) ≡ tableSize) × (place < places) ⌝ }
-    ensures { λ r. ⌜ r ≡ portAt (now (table .entry)) place port ⌝ }
+fn is_at(table: &[u32], i: usize, port: u32) -> bool
+    requires { ⌜ (length (now table) ≡ tableSize) × (i < places) ⌝ }
+    ensures { λ r. ⌜ r ≡ portAt (now (table .entry)) i port ⌝ }
 {
-    if table[STRIDE * place + WIRING] == FREE {
+    if table[STRIDE * i + WIRING] == FREE {
         return false;
     }
-    table[STRIDE * place + PORT] == port
+    table[STRIDE * i + PORT] == port
 }
 
 // The first place from an index on that has a port's record; the number of places where none has.
@@ -64,12 +64,12 @@ pub fn free_place(table: &[u32]) -> usize
     if table.len() != TABLE_SIZE {
         return PLACES;
     }
-    let mut i = 0;
-    while i < PLACES {
-        if table[STRIDE * i + WIRING] == FREE {
-            return i;
+    let mut place = 0;
+    while place < PLACES {
+        if table[STRIDE * place + WIRING] == FREE {
+            return place;
         }
-        i += 1;
+        place += 1;
     }
     PLACES
 }

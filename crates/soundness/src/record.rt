@@ -1,10 +1,8 @@
 // Whether a record is within its lists and its state goes by its rule, but for its port and its wiring.
 ghost use mathlib.Core.Path.{_≡_};
 ghost use Prim.Native.Nat.{_+_, _<_};
-ghost use mathlib.Core.Bool.{_&&_};
-ghost use lib.Dec.{eqb};
 ghost use lib.ListN.{length};
-ghost use Rattle.rules.specs.Layout.{stride, askedIndex, answeredIndex};
+ghost use Rattle.rules.specs.Layout.{stride};
 ghost use Rattle.rules.specs.WellFormed.{setupFits, formatFits, factsFit};
 ghost use Rattle.rules.specs.Cells.{formatAt, setupFrom, recordAt};
 ghost use Rattle.soundness.specs.Soundness.{formatsInFit, sameSetups, stateInFits, settingsInFit};
@@ -15,7 +13,7 @@ use rules::layout::FORMATS;
 use rules::layout::MODE_COUNT;
 use rules::layout::STATE;
 
-// A setup's first cell is its mode plus one.
+// The first cell of a setup of the last mode: it is the mode plus one.
 const LAST_MODE: u32 = MODE_COUNT as u32;
 
 // Whether a setup is within its lists.

@@ -2,7 +2,7 @@ use native.Mathlib.Omega.{arith}
 use borrow.Author.Needs.{needs}
 use borrow.Author.Tests.{eq-eqb, ne-eqb}
 use Rattle.soundness.proofs.Loops.{stops, goes-on}
-use Prim.Native.Nat.{_-_, _≤_}
+use Prim.Native.Nat.{_-_, _≤_, _<_}
 use mathlib.Core.Path.{_≡_, sym, _∙_}
 use Rattle.rules.specs.Layout.{stride}
 use Rattle.soundness.specs.Soundness.{emptyPlace}
@@ -29,7 +29,8 @@ returns : tie.Need-returns Inv-loop μ-loop
 returns c =
     let start = c .before .before .before .before in
     let loop = c .before .before .before .loop in
-    stops _ (loop .inv .1 ∙ empty-next (start .args .place .now) (loop .k) (start .pre) (c .before .before .loop-test .taken)) (ne-eqb _ _ (c .if1 .taken))
+    let below : loop .k < stride = omega (arith, c .before .before .loop-test .taken) in
+    stops _ (loop .inv .1 ∙ empty-next (start .args .place .now) (loop .k) (start .pre) below) (ne-eqb _ _ (c .if1 .taken))
 
 add-k : tie.Need-add-k Inv-loop μ-loop
 add-k c = search needs
@@ -41,8 +42,8 @@ loop-again : tie.Need-loop-again Inv-loop μ-loop
 loop-again c =
     let start = c .before .before .before .before in
     let loop = c .before .before .before .loop in
-    let below = c .before .before .loop-test .taken in
-    (omega (arith, below), goes-on (loop .inv .1 ∙ empty-next (start .args .place .now) (loop .k) (start .pre) below) (eq-eqb _ _ (c .if1 .left)))
+    let below : loop .k < stride = omega (arith, c .before .before .loop-test .taken) in
+    (omega arith, goes-on (loop .inv .1 ∙ empty-next (start .args .place .now) (loop .k) (start .pre) below) (eq-eqb _ _ (c .if1 .left)))
 
 returns-2 : tie.Need-returns-2 Inv-loop μ-loop
 returns-2 c =
