@@ -3,18 +3,19 @@ use Prim.Native.Nat.{ℕ, zero, suc, _+_, _*_, _-_, _≤_, _<_}
 use native.Mathlib.Nat.{zero-add, add-zero}
 use native.Mathlib.Omega.{arith}
 use mathlib.Core.Path.{_≡_, refl, sym, _∙_, ap}
-use mathlib.Core.Bool.{Bool, true, false, cond}
+use mathlib.Core.Bool.{Bool, true, false, cond, not}
 use mathlib.Core.List.{List, [], _∷_}
-use mathlib.Core.Option.{none, some}
+use mathlib.Core.Option.{Option, none, some}
 use mathlib.Core.Logic.{⊎-elim}
-use borrow.Author.Tests.{eqb-true, eqb-false, eq-eqb, ne-eqb, lt-ltb}
+use borrow.Author.Tests.{eqb-true, eqb-false, eq-eqb, ne-eqb, lt-ltb, le-ltb}
 use lib.Dec.{eqb, eqb·suc-suc}
-use lib.ListN.{length, getD, drop}
-use lib.Seq.{getD-take, getD-drop, drop-drop}
+use lib.ListN.{length, getD, drop, length-drop}
+use lib.Seq.{getD-take, getD-drop, drop-drop, length-take-le}
 use Rattle.protocol.proofs.Tests.{which}
 use Rattle.rules.specs.Layout.{places, stride, tableSize, wiringIndex, portIndex}
+use Rattle.rules.specs.Facts.{Facts, known}
 use Rattle.rules.specs.Table.{Record, Table, viewOfTable, fullTable}
-use Rattle.rules.specs.Cells.{recordAt, placeAt, placesAt, tableAt}
+use Rattle.rules.specs.Cells.{cellAt, recordAt, placeAt, placesAt, tableAt}
 use Rattle.soundness.specs.Place.{placeAtIndex, cellOf, factsAt, portAt, placeOf, firstFree, findPlace, freePlace, fromPlace}
 
 -- a cell of the place at an index
@@ -27,6 +28,9 @@ next cells i h =
     let place : stride * i + stride ≡ stride * (i + 1) = omega arith in
     ap (λ (n : ℕ). placesAt n (drop (stride * i) cells)) more
     ∙ ap (λ (l : List ℕ). placeAt (placeAtIndex cells i) ∷ placesAt (places - (i + 1)) l) (drop-drop stride (stride * i) cells ∙ ap (λ (n : ℕ). drop n cells) place)
+
+pub place-size : (cells : List ℕ) (i : ℕ) → length cells ≡ tableSize → i < places → length (placeAtIndex cells i) ≡ stride
+place-size cells i size h = length-take-le stride (drop (stride * i) cells) (rw length-drop (omega arith))
 
 -- ---- the first of the places left
 
@@ -43,10 +47,6 @@ module _ (cells : List ℕ) (i : ℕ) (h : i < places) where
   pub record-first : (cellOf cells i wiringIndex ≡ 0 → ⊥) → fromPlace cells i ≡ some (recordAt (placeAtIndex cells i)) ∷ fromPlace cells (i + 1)
   record-first used = by-wiring false (ne-eqb (cellOf cells i wiringIndex) 0 used)
 
-its-port : (cells : List ℕ) (i : ℕ) → recordAt (placeAtIndex cells i) .port ≡ cellOf cells i portIndex
-unfolding recordAt
-its-port cells i = cell cells i portIndex (omega arith)
-
 -- ---- no place left
 
 over : (i : ℕ) → places ≤ i → places - i ≡ 0
@@ -61,55 +61,71 @@ place-end cells i port h = rw (over i h)
 pub free-end : (cells : List ℕ) (i : ℕ) → places ≤ i → firstFree (fromPlace cells i) ≡ 0
 free-end cells i h = rw (over i h)
 
+-- ---- the facts at a place
+
+module _ (cells : List ℕ) (i : ℕ) where
+  pub facts-some : i < places → factsAt cells i ≡ some (recordAt (placeAtIndex cells i) .facts)
+  unfolding factsAt
+  facts-some h = rw (lt-ltb i places h)
+
+  pub facts-none : places ≤ i → factsAt cells i ≡ none
+  unfolding factsAt
+  facts-none h = rw (le-ltb i places h)
+
 pub nowhere : (cells : List ℕ) → factsAt cells places ≡ none
-unfolding factsAt
-nowhere cells = refl
+nowhere cells = facts-none cells places (omega arith)
 
 -- ---- by the test of a place
 
--- a place without the record of a port
-data Past (t u : Table) (port : ℕ) : Type 0 where
-  free : t ≡ none ∷ u → Past t u port
-  other : (r : Record) → t ≡ some r ∷ u → eqb (r .port) port ≡ false → Past t u port
+-- whether a place has a port's record, and its facts
+abbrev has : ℕ → Option Record → Bool
+has port none = false
+has port (some r) = eqb (r .port) port
 
-view-past : (t u : Table) (port : ℕ) → Past t u port → viewOfTable t port ≡ viewOfTable u port
-view-past t u port (free e) = ap (λ (x : Table). viewOfTable x port) e
-view-past t u port (other r e n) = ap (λ (x : Table). viewOfTable x port) e ∙ ap (λ (b : Bool). cond b (some (r .facts)) (viewOfTable u port)) n
+abbrev factsOf : Option Record → Option Facts
+factsOf none = none
+factsOf (some r) = some (r .facts)
 
-place-past : (t u : Table) (port : ℕ) → Past t u port → placeOf t port ≡ suc (placeOf u port)
-place-past t u port (free e) = ap (λ (x : Table). placeOf x port) e
-place-past t u port (other r e n) = ap (λ (x : Table). placeOf x port) e ∙ ap (λ (b : Bool). cond b 0 (suc (placeOf u port))) n
+-- the first place has it or has not
+place-first : (port : ℕ) (p : Option Record) (t : Table) {b : Bool} → has port p ≡ b → placeOf (p ∷ t) port ≡ cond b 0 (suc (placeOf t port))
+place-first port none t e = ap (λ (b : Bool). cond b 0 (suc (placeOf t port))) e
+place-first port (some r) t e = ap (λ (b : Bool). cond b 0 (suc (placeOf t port))) e
+
+view-first : (port : ℕ) (p : Option Record) (t : Table) {b : Bool} → has port p ≡ b → viewOfTable (p ∷ t) port ≡ cond b (factsOf p) (viewOfTable t port)
+view-first port none t e = ap (λ (b : Bool). cond b none (viewOfTable t port)) e
+view-first port (some r) t e = ap (λ (b : Bool). cond b (some (r .facts)) (viewOfTable t port)) e
 
 module _ (cells : List ℕ) (i port : ℕ) (h : i < places) where
-  past : portAt cells i port ≡ false → Past (fromPlace cells i) (fromPlace cells (i + 1)) port
-  unfolding portAt
-  past e =
-      ⊎-elim
-      (λ (k : eqb (cellOf cells i wiringIndex) 0 ≡ true). free (by-wiring cells i h true k))
-      (λ (k : eqb (cellOf cells i wiringIndex) 0 ≡ false). other (recordAt (placeAtIndex cells i)) (by-wiring cells i h false k) (ap (λ (n : ℕ). eqb n port) (its-port cells i) ∙ rw k at e))
-      (which (eqb (cellOf cells i wiringIndex) 0))
+  its-port : portAt cells i port ≡ has port (placeAt (placeAtIndex cells i))
+  unfolding portAt recordAt
+  its-port =
+      sym (λ j. cond (eqb (cell cells i wiringIndex (omega arith) j) 0) false (eqb (cell cells i portIndex (omega arith) j) port)) ∙ go (eqb (cellAt (placeAtIndex cells i) wiringIndex) 0)
+    where
+      go : (free : Bool) → cond free false (eqb (cellAt (placeAtIndex cells i) portIndex) port) ≡ has port (cond free none (some (recordAt (placeAtIndex cells i))))
+      go true = refl
+      go false = refl
+
+  by-place : {b : Bool} → portAt cells i port ≡ b → placeOf (fromPlace cells i) port ≡ cond b 0 (suc (placeOf (fromPlace cells (i + 1)) port))
+  by-place e = ap (λ (t : Table). placeOf t port) (next cells i h) ∙ place-first port (placeAt (placeAtIndex cells i)) (fromPlace cells (i + 1)) (sym its-port ∙ e)
+
+  by-view : {b : Bool} → portAt cells i port ≡ b → viewOfTable (fromPlace cells i) port ≡ cond b (factsOf (placeAt (placeAtIndex cells i))) (viewOfTable (fromPlace cells (i + 1)) port)
+  by-view e = ap (λ (t : Table). viewOfTable t port) (next cells i h) ∙ view-first port (placeAt (placeAtIndex cells i)) (fromPlace cells (i + 1)) (sym its-port ∙ e)
 
   pub not-at : portAt cells i port ≡ false → viewOfTable (fromPlace cells i) port ≡ viewOfTable (fromPlace cells (i + 1)) port
-  not-at e = view-past (fromPlace cells i) (fromPlace cells (i + 1)) port (past e)
+  not-at e = by-view e
 
   pub place-later : portAt cells i port ≡ false → placeOf (fromPlace cells i) port ≡ suc (placeOf (fromPlace cells (i + 1)) port)
-  place-later e = place-past (fromPlace cells i) (fromPlace cells (i + 1)) port (past e)
-
-  -- the place with the record of a port
-  own : portAt cells i port ≡ true → (fromPlace cells i ≡ some (recordAt (placeAtIndex cells i)) ∷ fromPlace cells (i + 1)) × (eqb (recordAt (placeAtIndex cells i) .port) port ≡ true)
-  unfolding portAt
-  own e =
-      ⊎-elim
-      (λ (k : eqb (cellOf cells i wiringIndex) 0 ≡ true). let z : false ≡ true = rw k at e in let one : _≡_ {A = ℕ} 0 1 = cc in absurd (omega arith))
-      (λ (k : eqb (cellOf cells i wiringIndex) 0 ≡ false). (by-wiring cells i h false k, ap (λ (n : ℕ). eqb n port) (its-port cells i) ∙ rw k at e))
-      (which (eqb (cellOf cells i wiringIndex) 0))
+  place-later e = by-place e
 
   pub is-at : portAt cells i port ≡ true → viewOfTable (fromPlace cells i) port ≡ factsAt cells i
-  unfolding factsAt
-  is-at e = let k = own e in ap (λ (t : Table). viewOfTable t port) (k .0) ∙ rw (k .1, lt-ltb i places h)
+  is-at e = by-view e ∙ own (eqb (cellAt (placeAtIndex cells i) wiringIndex) 0) (recordAt (placeAtIndex cells i)) (sym its-port ∙ e) ∙ sym (facts-some cells i h)
+    where
+      own : (free : Bool) (r : Record) → has port (cond free none (some r)) ≡ true → factsOf (cond free none (some r)) ≡ some (r .facts)
+      own true r k = let one : _≡_ {A = ℕ} 0 1 = cc in absurd (omega arith)
+      own false r k = refl
 
   pub place-here : portAt cells i port ≡ true → placeOf (fromPlace cells i) port ≡ 0
-  place-here e = let k = own e in ap (λ (t : Table). placeOf t port) (k .0) ∙ ap (λ (b : Bool). cond b 0 (suc (placeOf (fromPlace cells (i + 1)) port))) (k .1)
+  place-here e = by-place e
 
 -- ---- going on from place to place
 
@@ -155,6 +171,15 @@ found-from cells port (suc left) i e =
 pub found : (cells : List ℕ) → length cells ≡ tableSize → (port r : ℕ) → r ≡ findPlace cells port → viewOfTable (tableAt cells) port ≡ factsAt cells r
 found cells size port r e =
     from-start cells port ∙ found-from cells port places 0 refl ∙ ap (factsAt cells) (sym (e ∙ find-place cells size port ∙ place-start cells port))
+
+-- in no place from one on, by the place found
+pub not-from : (cells : List ℕ) (port i r : ℕ) → i ≤ places → r ≤ places → r ≡ i + placeOf (fromPlace cells i) port → eqb r places ≡ not (known (viewOfTable (fromPlace cells i) port))
+not-from cells port i r h most e =
+    let is : viewOfTable (fromPlace cells i) port ≡ factsAt cells r = found-from cells port (places - i) i (omega arith) ∙ ap (factsAt cells) (sym e) in
+    ⊎-elim
+    (λ (k : eqb r places ≡ true). k ∙ sym (ap (λ (x : Option Facts). not (known x)) (is ∙ facts-none cells r (omega (arith, eqb-true r places k)))))
+    (λ (k : eqb r places ≡ false). let differs = eqb-false r places k in k ∙ sym (ap (λ (x : Option Facts). not (known x)) (is ∙ facts-some cells r (omega arith))))
+    (which (eqb r places))
 
 -- ---- the lowest free place
 

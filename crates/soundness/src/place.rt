@@ -2,8 +2,8 @@
 ghost use mathlib.Core.Path.{_≡_};
 ghost use Prim.Native.Nat.{_+_, _≤_, _<_};
 ghost use lib.ListN.{length};
-ghost use Rattle.rules.specs.Layout.{places, tableSize};
-ghost use Rattle.soundness.specs.Place.{fromPlace, portAt, placeOf, findPlace, freePlace};
+ghost use Rattle.rules.specs.Layout.{places, stride, tableSize};
+ghost use Rattle.soundness.specs.Place.{placeAtIndex, fromPlace, portAt, placeOf, findPlace, freePlace};
 use rules::layout::FREE;
 use rules::layout::PLACES;
 use rules::layout::PORT;
@@ -11,15 +11,25 @@ use rules::layout::STRIDE;
 use rules::layout::TABLE_SIZE;
 use rules::layout::WIRING;
 
-// Whether the record of a port stands at a place.
-fn is_at(table: &[u32], place: usize, port: u32) -> bool
-    requires { ⌜ (length (now table) ≡ tableSize) × (place < places) ⌝ }
-    ensures { λ r. ⌜ r ≡ portAt (now (table .entry)) place port ⌝ }
+// The cells of a place.
+pub(crate) fn place_at(table: &[u32], i: usize) -> &[u32]
+    requires { ⌜ (length (now table) ≡ tableSize) × (i < places) ⌝ }
+    ensures { λ r. ⌜ (now r ≡ placeAtIndex (now (table .entry)) i) × (length (now r) ≡ stride) ⌝ }
 {
-    if table[STRIDE * place + WIRING] == FREE {
+    let at = STRIDE * i;
+    let end = at + STRIDE;
+    &table[at..end]
+}
+
+// Whether the record of a port stands at a place.
+fn is_at(table: &[u32], i: usize, port: u32) -> bool
+    requires { ⌜ (length (now table) ≡ tableSize) × (i < places) ⌝ }
+    ensures { λ r. ⌜ r ≡ portAt (now (table .entry)) i port ⌝ }
+{
+    if table[STRIDE * i + WIRING] == FREE {
         return false;
     }
-    table[STRIDE * place + PORT] == port
+    table[STRIDE * i + PORT] == port
 }
 
 // The first place from an index on that has a port's record; the number of places where none has.
@@ -54,12 +64,12 @@ pub fn free_place(table: &[u32]) -> usize
     if table.len() != TABLE_SIZE {
         return PLACES;
     }
-    let mut i = 0;
-    while i < PLACES {
-        if table[STRIDE * i + WIRING] == FREE {
-            return i;
+    let mut place = 0;
+    while place < PLACES {
+        if table[STRIDE * place + WIRING] == FREE {
+            return place;
         }
-        i += 1;
+        place += 1;
     }
     PLACES
 }

@@ -1,4 +1,4 @@
-use Prim.Native.Nat.{_+_, _-_, _≤_}
+use Prim.Native.Nat.{_+_, _-_, _≤_, _<_}
 use native.Mathlib.Omega.{arith}
 use mathlib.Core.Path.{_≡_, refl, sym, _∙_}
 use Rattle.rules.specs.Layout.{places}
@@ -17,14 +17,14 @@ loop-holds : tie.Need-loop-holds Inv-loop μ-loop
 loop-holds c = (c .before .pre .1, refl)
 
 is-at-requires : tie.Need-is-at-requires Inv-loop μ-loop
-is-at-requires c κs = (c .before .before .before .pre .0, c .loop-test .taken)
+is-at-requires c κs = (c .before .before .before .pre .0, omega (arith, c .loop-test .taken))
 
 returns : tie.Need-returns Inv-loop μ-loop
 returns c =
     let a = c .before .before .before .before .before .args in
     let loop = c .before .before .before .loop in
-    let below = c .before .before .loop-test .taken in
-    (omega (arith, below), step-last _ (loop .i) _ (loop .inv .1) (place-here (a .table .now) (loop .i) (a .port) below (sym (c .before .is-at .ensures) ∙ c .if1 .taken)))
+    let below : loop .i < places = omega (arith, c .before .before .loop-test .taken) in
+    (omega arith, step-last _ (loop .i) _ (loop .inv .1) (place-here (a .table .now) (loop .i) (a .port) below (sym (c .before .is-at .ensures) ∙ c .if1 .taken)))
 
 add-i : tie.Need-add-i Inv-loop μ-loop
 add-i c = omega (arith, c .before .before .loop-test .taken)
@@ -36,8 +36,8 @@ loop-again : tie.Need-loop-again Inv-loop μ-loop
 loop-again c =
     let a = c .before .before .before .before .before .args in
     let loop = c .before .before .before .loop in
-    let below = c .before .before .loop-test .taken in
-    (omega (arith, below), step-on _ (loop .i) _ _ (loop .inv .1) (place-later (a .table .now) (loop .i) (a .port) below (sym (c .before .is-at .ensures) ∙ c .if1 .left)))
+    let below : loop .i < places = omega (arith, c .before .before .loop-test .taken) in
+    (omega arith, step-on _ (loop .i) _ _ (loop .inv .1) (place-later (a .table .now) (loop .i) (a .port) below (sym (c .before .is-at .ensures) ∙ c .if1 .left)))
 
 returns-2 : tie.Need-returns-2 Inv-loop μ-loop
 returns-2 c =

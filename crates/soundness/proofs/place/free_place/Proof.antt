@@ -9,10 +9,10 @@ use Rattle.soundness.proofs.place.free_place.Statement.{statement}
 use Rattle.soundness.proofs.place.free_place.Tie as tie
 
 abbrev Inv-loop : tie.InvT-loop
-Inv-loop table i₀ i = (i ≤ places) × (freePlace table ≡ i + firstFree (fromPlace table i))
+Inv-loop table place₀ place = (place ≤ places) × (freePlace table ≡ place + firstFree (fromPlace table place))
 
 abbrev μ-loop : tie.MeasureT-loop
-μ-loop table i₀ i = places - i
+μ-loop table place₀ place = places - place
 
 returns : tie.Need-returns Inv-loop μ-loop
 returns c = (omega arith, no-free-place (c .before .args .table .now) (c .if1 .taken))
@@ -37,10 +37,10 @@ returns-2 c =
     let cells = c .before .before .before .before .before .args .table .now in
     let loop = c .before .before .before .loop in
     let below = c .before .before .loop-test .taken in
-    (omega (arith, below), step-last _ (loop .i) _ (loop .inv .1) (free-here cells (loop .i) below (c .if2 .taken)))
+    (omega (arith, below), step-last _ (loop .place) _ (loop .inv .1) (free-here cells (loop .place) below (c .if2 .taken)))
 
-add-i : tie.Need-add-i Inv-loop μ-loop
-add-i c = omega (arith, c .before .before .loop-test .taken)
+add-place : tie.Need-add-place Inv-loop μ-loop
+add-place c = omega (arith, c .before .before .loop-test .taken)
 
 loop-less : tie.Need-loop-less Inv-loop μ-loop
 loop-less c = omega (arith, c .before .before .loop-test .taken)
@@ -50,14 +50,14 @@ loop-again c =
     let cells = c .before .before .before .before .before .args .table .now in
     let loop = c .before .before .before .loop in
     let below = c .before .before .loop-test .taken in
-    (omega (arith, below), step-on _ (loop .i) _ _ (loop .inv .1) (free-later cells (loop .i) below (c .if2 .left)))
+    (omega (arith, below), step-on _ (loop .place) _ _ (loop .inv .1) (free-later cells (loop .place) below (c .if2 .left)))
 
 returns-3 : tie.Need-returns-3 Inv-loop μ-loop
 returns-3 c =
     let cells = c .before .before .before .args .table .now in
     let loop = c .before .loop in
     let all = c .loop-test .left in
-    let last = step-last _ (loop .i) _ (loop .inv .1) (free-end cells (loop .i) all) in
+    let last = step-last _ (loop .place) _ (loop .inv .1) (free-end cells (loop .place) all) in
     (omega arith, omega (arith, last, loop .inv .0, all))
 
 pub free-place-spec : {M : Type 1} → statement M
@@ -73,7 +73,7 @@ free-place-spec =
     mul-if2-2
     shared-slice-read-if2
     returns-2
-    add-i
+    add-place
     loop-less
     loop-again
     returns-3)

@@ -1,5 +1,7 @@
+use mathlib.Core.Path.{_≡_}
 use borrow.Author.Tests.{eq-eqb, ne-eqb}
-use Rattle.soundness.specs.Place.{portAt}
+use Rattle.rules.specs.Layout.{wiringIndex}
+use Rattle.soundness.specs.Place.{cellOf, portAt}
 use borrow.Author.Needs.{needs}
 use Rattle.soundness.proofs.place.is_at.Statement.{statement}
 use Rattle.soundness.proofs.place.is_at.Tie as tie
@@ -18,7 +20,10 @@ shared-slice-read-if1 c = search needs
 
 returns : tie.Need-returns
 unfolding portAt
-returns c = rw (eq-eqb _ _ (c .if1 .taken))
+returns c =
+    let a = c .before .before .args in
+    let free : cellOf (a .table .now) (a .i) wiringIndex ≡ 0 = c .if1 .taken in
+    rw (eq-eqb _ _ free)
 
 mul-result : tie.Need-mul-result
 mul-result c = search needs

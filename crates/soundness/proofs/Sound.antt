@@ -1,0 +1,92 @@
+-- Soundness of cells, place by place.
+use Prim.Native.Nat.{ℕ, _+_, _*_, _-_, _≤_, _<_}
+use native.Mathlib.Omega.{arith}
+use mathlib.Core.Path.{_≡_, refl, sym, _∙_, ap}
+use mathlib.Core.Bool.{Bool, true, false, cond, not, _&&_, and-true, and-assoc}
+use mathlib.Core.List.{List, _∷_, _++_}
+use mathlib.Core.Option.{Option, none, some}
+use mathlib.Core.Logic.{⊎-elim}
+use borrow.Author.Tests.{eq-eqb, ne-eqb}
+use lib.Dec.{eqb}
+use lib.ListN.{length, drop, take-append-drop, drop-of-length-le}
+use lib.Seq.{drop-drop}
+use Rattle.protocol.proofs.Tests.{which}
+use Rattle.rules.specs.Layout.{places, stride, tableSize, wiringIndex, portIndex}
+use Rattle.rules.specs.Facts.{View, known}
+use Rattle.rules.specs.Table.{Record, Table, viewOfTable}
+use Rattle.rules.specs.WellFormed.{recordFits, placesFit, wellFormed}
+use Rattle.rules.specs.Cells.{placeCells, cellsOf, cellAt, recordAt, placeAt, tableAt, sameCells, sound}
+use Rattle.rules.proofs.CellsRecord.{place-length}
+use Rattle.rules.proofs.CellsSound.{sound-length}
+use Rattle.soundness.specs.Place.{placeAtIndex, fromPlace}
+use Rattle.soundness.specs.Soundness.{emptyPlace, exactRecord, placeFits, soundPlace}
+use Rattle.soundness.proofs.Places.{place-size, next}
+use Rattle.soundness.proofs.ExactCells.{same-append}
+
+-- ---- the places from an index on
+
+abbrev pub soundFrom : List ℕ → ℕ → Bool
+soundFrom cells i = sameCells (drop (stride * i) cells) (cellsOf (fromPlace cells i)) && placesFit (viewOfTable (tableAt cells)) (fromPlace cells i)
+
+pub sound-start : (cells : List ℕ) → sound cells ≡ soundFrom cells 0
+unfolding sound tableAt wellFormed
+sound-start cells = refl
+
+place-then : (view : View) (p : Option Record) (t : Table) → placesFit view (p ∷ t) ≡ (placeFits view t p && placesFit view t)
+place-then view none t = refl
+place-then view (some r) t = refl
+
+crossed : (a b x y : Bool) → (a && b && (x && y)) ≡ (a && x && (b && y))
+crossed true true x y = refl
+crossed true false true y = refl
+crossed true false false y = refl
+crossed false b x y = refl
+
+module _ (cells : List ℕ) (i : ℕ) (size : length cells ≡ tableSize) where
+  pub sound-done : places ≤ i → soundFrom cells i ≡ true
+  unfolding cellsOf
+  sound-done h =
+      let none-left : places - i ≡ 0 = omega arith in
+      rw (none-left, drop-of-length-le cells {i = stride * i} (omega arith))
+
+  pub sound-next : i < places → soundFrom cells i ≡ (soundPlace cells i && soundFrom cells (i + 1))
+  unfolding soundPlace cellsOf
+  sound-next h =
+      let view : View = viewOfTable (tableAt cells) in
+      let place : List ℕ = placeAtIndex cells i in
+      let p : Option Record = placeAt place in
+      let rest : List ℕ = drop (stride * (i + 1)) cells in
+      let later : Table = fromPlace cells (i + 1) in
+      let width : stride * i + stride ≡ stride * (i + 1) = omega arith in
+      let cut : drop (stride * i) cells ≡ place ++ rest =
+      sym (take-append-drop stride (drop (stride * i) cells)) ∙ ap (λ (l : List ℕ). place ++ l) (drop-drop stride (stride * i) cells ∙ ap (λ (n : ℕ). drop n cells) width)
+      in
+      ap (λ (l : List ℕ). sameCells l (cellsOf (fromPlace cells i)) && placesFit view (fromPlace cells i)) cut
+      ∙ ap (λ (t : Table). sameCells (place ++ rest) (cellsOf t) && placesFit view t) (next cells i h)
+      ∙ (λ j. same-append place (placeCells p) rest (cellsOf later) (place-size cells i size h ∙ sym (place-length p)) j && place-then view p later j)
+      ∙ crossed (sameCells place (placeCells p)) (sameCells rest (cellsOf later)) (placeFits view later p) (placesFit view later)
+
+pub wrong-size : (cells : List ℕ) → (length cells ≡ tableSize → ⊥) → false ≡ sound cells
+wrong-size cells n = ⊎-elim (λ (k : sound cells ≡ true). absurd (n (sound-length cells k))) (λ (k : sound cells ≡ false). sym k) (which (sound cells))
+
+-- ---- the place at an index
+
+module _ (cells place : List ℕ) (i : ℕ) (is : place ≡ placeAtIndex cells i) where
+  -- what is asked of it, by what it stands for
+  asked : Option Record → Bool
+  asked p = sameCells place (placeCells p) && placeFits (viewOfTable (tableAt cells)) (fromPlace cells (i + 1)) p
+
+  by-place : (free : Bool) → eqb (cellAt place wiringIndex) 0 ≡ free → asked (cond free none (some (recordAt place))) ≡ soundPlace cells i
+  unfolding soundPlace asked
+  by-place free e =
+      sym (ap (λ (l : List ℕ). sameCells l (placeCells (placeAt l)) && placeFits (viewOfTable (tableAt cells)) (fromPlace cells (i + 1)) (placeAt l)) (sym is) ∙ ap (λ (b : Bool). asked (cond b none (some (recordAt place)))) e)
+
+  pub free-sound : cellAt place wiringIndex ≡ 0 → emptyPlace place ≡ soundPlace cells i
+  unfolding asked emptyPlace
+  free-sound e = sym (and-true (sameCells place (placeCells none))) ∙ by-place true (eq-eqb (cellAt place wiringIndex) 0 e)
+
+  pub record-sound : (cellAt place wiringIndex ≡ 0 → ⊥) → (exactRecord place && recordFits (viewOfTable (tableAt cells)) (recordAt place) && not (known (viewOfTable (fromPlace cells (i + 1)) (cellAt place portIndex)))) ≡ soundPlace cells i
+  unfolding asked exactRecord recordAt
+  record-sound n =
+      and-assoc (exactRecord place) (recordFits (viewOfTable (tableAt cells)) (recordAt place)) (not (known (viewOfTable (fromPlace cells (i + 1)) (cellAt place portIndex))))
+      ∙ by-place false (ne-eqb (cellAt place wiringIndex) 0 n)
