@@ -140,8 +140,6 @@ module _ (cells : List ℕ) (ok : sound cells ≡ true) where
 
     -- ---- what it is told
 
-
-
     pub set-format-is : (mode : ℕ) (new : Format) → mode ≤ 15 → stored cells place (format-stores mode new) ≡ cellsOf (apply (ToPort port (Formatted mode new)) t)
     unfolding apply
     set-format-is mode new h =

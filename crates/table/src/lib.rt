@@ -10,3 +10,116 @@ pub mod offering;
 pub mod query;
 mod step;
 
+use crate::block::Block;
+use crate::block::block_sound;
+use crate::datasets::Dataset;
+use crate::datasets::dataset_sound;
+use crate::offering::Outcome;
+use crate::offering::offer_sound;
+use crate::query::ModeFormat;
+use crate::query::Port;
+use crate::query::format_of;
+use crate::query::port_of;
+use crate::step::clear;
+use protocol::Way;
+use rules::layout::TABLE_SIZE;
+use soundness::is_sound;
+ghost use mathlib.Core.Path.{_≡_};
+ghost use lib.ListN.{length};
+ghost use Rattle.rules.specs.Answer.{outcome};
+ghost use Rattle.rules.specs.Offer.{cellsAfter, datasetByCells, offerByCells};
+ghost use Rattle.table.specs.BlockAnswer.{blockAnswer, blockCells, blockFits, blockText, runOf};
+ghost use Rattle.table.specs.BlockAnswer as BlockAnswer;
+ghost use Rattle.table.specs.DatasetAnswer as DatasetAnswer;
+ghost use Rattle.table.specs.FormatAnswer.{formatByCells};
+ghost use Rattle.table.specs.FormatAnswer as FormatAnswer;
+ghost use Rattle.table.specs.OfferAnswer.{emptied, emptyAnswer};
+ghost use Rattle.table.specs.OfferAnswer as OfferAnswer;
+ghost use Rattle.table.specs.PortAnswer.{portByCells};
+ghost use Rattle.table.specs.PortAnswer as PortAnswer;
+
+// Makes an empty table of `TABLE_SIZE` cells of any content.
+pub fn empty(table: &mut [u32]) -> Outcome
+    ensures { λ r. ⌜ (OfferAnswer.answerOf r ≡ emptyAnswer (now (table .entry))) × (now (table .exit) ≡ emptied (now (table .entry))) ⌝ }
+{
+    if table.len() != TABLE_SIZE {
+        return Outcome::Refused {
+            number: 9,
+            place: 0,
+        };
+    }
+    clear(table);
+    Outcome::Accepted
+}
+
+// Offers a message to the table, which follows it where it is accepted.
+pub fn offer(table: &mut [u32], message: &[u8], way: Way) -> Outcome
+    ensures { λ r. ⌜ (OfferAnswer.answerOf r ≡ outcome (offerByCells (now (table .entry)) (record { way = way; bytes = now (message .entry) }))) × (now (table .exit) ≡ cellsAfter (now (table .entry)) (record { way = way; bytes = now (message .entry) })) ⌝ }
+{
+    if is_sound(table) {
+        return offer_sound(table, message, way);
+    }
+    Outcome::Refused {
+        number: 9,
+        place: 0,
+    }
+}
+
+// Hands out one dataset of a message, as the table stands.
+pub fn dataset(table: &[u32], message: &[u8], way: Way, number: usize) -> Dataset
+    ensures { λ r. ⌜ DatasetAnswer.answerOf r ≡ datasetByCells (now (table .entry)) (record { way = way; bytes = now (message .entry) }) number ⌝ }
+{
+    if is_sound(table) {
+        return dataset_sound(table, message, way, number);
+    }
+    Dataset::Refused {
+        number: 9,
+        place: 0,
+    }
+}
+
+// What the table says of a port, its formats left out.
+pub fn port(table: &[u32], port: u8) -> Port
+    ensures { λ r. ⌜ PortAnswer.answerOf r ≡ portByCells (now (table .entry)) port ⌝ }
+{
+    if is_sound(table) {
+        return port_of(table, port);
+    }
+    Port::Refused {
+        number: 9,
+        place: 0,
+    }
+}
+
+// What the table says of the value format of a port's mode.
+pub fn format(table: &[u32], port: u8, mode: u8) -> ModeFormat
+    ensures { λ r. ⌜ FormatAnswer.answerOf r ≡ formatByCells (now (table .entry)) port mode ⌝ }
+{
+    if is_sound(table) {
+        return format_of(table, port, mode);
+    }
+    ModeFormat::Refused {
+        number: 9,
+        place: 0,
+    }
+}
+
+// Works through a block of a log: as many whole records as there is room for, each a line of text in
+// the front of `out`, numbered on from `lines`. The table follows the messages.
+pub fn read_block(
+    table: &mut [u32],
+    lines: u64,
+    refused: u64,
+    input: &[u8],
+    out: &mut [u8],
+) -> Block
+    ensures { λ r. ⌜ (BlockAnswer.answerOf r ≡ blockAnswer 128 (runOf (now (table .entry)) lines refused (now (input .entry))) (length (now (out .entry)))) × (now (table .exit) ≡ blockCells 128 (runOf (now (table .entry)) lines refused (now (input .entry))) (length (now (out .entry)))) × (now (out .exit) ≡ blockText 128 (runOf (now (table .entry)) lines refused (now (input .entry))) (now (out .entry))) × (blockFits r (length (now (input .entry))) (length (now (out .entry)))) ⌝ }
+{
+    if is_sound(table) {
+        return block_sound(table, lines, refused, input, out);
+    }
+    Block::Refused {
+        number: 9,
+        place: 0,
+    }
+}

@@ -11,7 +11,7 @@ is-present-requires : tie.Need-is-present-requires
 is-present-requires c κs = search needs
 
 returns : tie.Need-returns
-returns c = 
+returns c =
     let a = c .before .before .before .args in
     sym (ap (λ (b : Bool). cond b 11 (refusalIfFull (fullTable (tableAt (a .table .now))))) (sym (c .before .is-present .ensures) ∙ c .if1 .taken))
 
@@ -19,7 +19,7 @@ full-refusal-requires : tie.Need-full-refusal-requires
 full-refusal-requires c κs = search needs
 
 returns-2 : tie.Need-returns-2
-returns-2 c = 
+returns-2 c =
     let a = c .before .before .before .before .args in
     c .full-refusal .ensures ∙ sym (ap (λ (b : Bool). cond b 11 (refusalIfFull (fullTable (tableAt (a .table .now))))) (sym (c .before .before .is-present .ensures) ∙ c .before .if1 .left))
 

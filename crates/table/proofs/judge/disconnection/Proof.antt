@@ -15,7 +15,7 @@ find-requires : tie.Need-find-requires
 find-requires c κs = search needs
 
 returns : tie.Need-returns
-returns c = 
+returns c =
     let a = c .before .before .before .args in
     sym (ap judgeDisconnect (found (a .table .now) (c .before .before .before .pre) (a .port) (c .before .find .result) (c .before .find .ensures .1) ∙ ap (factsAt (a .table .now)) (c .if1 .taken) ∙ nowhere (a .table .now)))
 
@@ -32,21 +32,21 @@ shared-slice-read-wiring : tie.Need-shared-slice-read-wiring
 shared-slice-read-wiring c = search needs
 
 returns-2 : tie.Need-returns-2
-returns-2 c = 
+returns-2 c =
     let a = c .before .before .before .before .before .args in
     let t = a .table .now in
     let i = c .before .before .before .find .result in
     sym (ap judgeDisconnect (found (a .table .now) (c .before .before .before .before .before .pre) (a .port) (c .before .before .before .find .result) (c .before .before .before .find .ensures .1)) ∙ disconnect-at t i (omega (arith, c .before .before .before .find .ensures .0, c .before .before .if1 .left)) ∙ ap (λ (b : Bool). cond b 0 12) (physical-kind (cellOf t i wiringIndex) (cellOf t i firstIndex) (cellOf t i secondIndex) (inl (c .if2 .taken))))
 
 returns-3 : tie.Need-returns-3
-returns-3 c = 
+returns-3 c =
     let a = c .before .before .before .before .before .before .args in
     let t = a .table .now in
     let i = c .before .before .before .before .find .result in
     sym (ap judgeDisconnect (found (a .table .now) (c .before .before .before .before .before .before .pre) (a .port) (c .before .before .before .before .find .result) (c .before .before .before .before .find .ensures .1)) ∙ disconnect-at t i (omega (arith, c .before .before .before .before .find .ensures .0, c .before .before .before .if1 .left)) ∙ ap (λ (b : Bool). cond b 0 12) (physical-kind (cellOf t i wiringIndex) (cellOf t i firstIndex) (cellOf t i secondIndex) (inr (c .if3 .taken))))
 
 returns-4 : tie.Need-returns-4
-returns-4 c = 
+returns-4 c =
     let a = c .before .before .before .before .before .before .args in
     let t = a .table .now in
     let i = c .before .before .before .before .find .result in

@@ -15,19 +15,19 @@ is-unjoined-requires-2 : tie.Need-is-unjoined-requires-2
 is-unjoined-requires-2 c κs = search needs
 
 returns : tie.Need-returns
-returns c = 
+returns c =
     let a = c .before .before .before .before .before .args in
     let view = viewOfCells (a .table .now) in
     third-decides (presentUnjoined (view (a .a))) (presentUnjoined (view (a .b))) (not (eqb (a .a) (a .b))) (sym (c .before .before .before .is-unjoined .ensures) ∙ c .before .before .if1 .taken) (sym (c .before .is-unjoined2 .ensures) ∙ c .if2 .taken)
 
 returns-2 : tie.Need-returns-2
-returns-2 c = 
+returns-2 c =
     let a = c .before .before .before .before .before .args in
     let view = viewOfCells (a .table .now) in
     second-fails (presentUnjoined (view (a .a))) (presentUnjoined (view (a .b))) (not (eqb (a .a) (a .b))) (sym (c .before .before .before .is-unjoined .ensures) ∙ c .before .before .if1 .taken) (sym (c .before .is-unjoined2 .ensures) ∙ c .if2 .left)
 
 returns-3 : tie.Need-returns-3
-returns-3 c = 
+returns-3 c =
     let a = c .before .before .before .args in
     let view = viewOfCells (a .table .now) in
     first-fails (presentUnjoined (view (a .a))) (presentUnjoined (view (a .b))) (not (eqb (a .a) (a .b))) (sym (c .before .is-unjoined .ensures) ∙ c .if1 .left)

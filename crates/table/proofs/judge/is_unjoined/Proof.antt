@@ -12,7 +12,7 @@ find-requires : tie.Need-find-requires
 find-requires c κs = search needs
 
 returns : tie.Need-returns
-returns c = 
+returns c =
     let a = c .before .before .before .args in
     sym (ap presentUnjoined (found (a .table .now) (c .before .before .before .pre) (a .port) (c .before .find .result) (c .before .find .ensures .1) ∙ ap (factsAt (a .table .now)) (c .if1 .taken) ∙ nowhere (a .table .now)))
 
@@ -29,7 +29,7 @@ shared-slice-read-result : tie.Need-shared-slice-read-result
 shared-slice-read-result c = search needs
 
 returns-2 : tie.Need-returns-2
-returns-2 c = 
+returns-2 c =
     let a = c .before .before .before .before .args in
     sym (ap presentUnjoined (found (a .table .now) (c .before .before .before .before .pre) (a .port) (c .before .before .find .result) (c .before .before .find .ensures .1)) ∙ unjoined-at (a .table .now) (c .before .before .find .result) (omega (arith, c .before .before .find .ensures .0, c .before .if1 .left)))
 

@@ -1,97 +1,104 @@
+use mathlib.Core.Path.{_≡_, refl, sym, _∙_, ap}
 use borrow.Author.Needs.{needs}
+use Rattle.rules.proofs.CellsSound.{sound-length}
+use Rattle.table.proofs.Offers.{tell-ready, change-ready, attach-ready, virtual-ready, detach-ready, changed-as, unchanged, refused-by, accepted-by, offered-message, offered-unread, cells-by, fits-by, all-bytes}
+use Rattle.table.proofs.Steps.{found-at, present-below, detach-pair, detach-virtual, detach-unjoined, partner-virtual, detach-joined, first-known, second-known, dissolve-is, clear-is, empty-is}
 use Rattle.table.proofs.offering.follow.Statement.{statement}
 use Rattle.table.proofs.offering.follow.Tie as tie
-use Rattle.table.proofs.offering.follow.Reads as reads
-use Rattle.table.proofs.offering.follow.Lts as lts
-use Rattle.table.proofs.step.attach.Reads as attach-reads
-use Rattle.table.proofs.step.attach_virtual.Reads as attach-virtual-reads
-use Rattle.table.proofs.step.clear.Reads as clear-reads
-use Rattle.table.proofs.step.detach.Reads as detach-reads
-use Rattle.table.proofs.step.tell.Reads as tell-reads
 
--- src/offering.rt:36:26
 enum-known-e : tie.Need-enum-known-e
 enum-known-e c = search needs
 
--- src/offering.rt:36:44
 tell-requires : tie.Need-tell-requires
-tell-requires c κs = ?
+tell-requires c κs = 
+    let a = c .before .before .before .before .before .args in
+    let cells = a .table .now in
+    (c .before .before .before .before .before .pre .0, tell-ready cells (a .count) (a .e) (c .before .before .before .before .before .pre .2) _ _ (c .before .before .e .given .1), change-ready (a .e) (c .before .before .before .before .before .pre .1) _ _ (c .before .before .e .given .1))
 
--- src/offering.rt:37:26
 enum-known-e-2 : tie.Need-enum-known-e-2
 enum-known-e-2 c = search needs
 
--- src/offering.rt:37:44
 attach-requires : tie.Need-attach-requires
-attach-requires c κs = ?
+attach-requires c κs = 
+    let a = c .before .before .before .before .before .args in
+    let cells = a .table .now in
+    (c .before .before .before .before .before .pre .0, attach-ready cells (a .count) (a .e) (c .before .before .before .before .before .pre .2) _ _ (c .before .before .e2 .given .1))
 
--- src/offering.rt:39:13
 enum-known-e-3 : tie.Need-enum-known-e-3
 enum-known-e-3 c = search needs
 
--- src/offering.rt:43:14
 attach-virtual-requires : tie.Need-attach-virtual-requires
-attach-virtual-requires c κs = ?
+attach-virtual-requires c κs = 
+    let a = c .before .before .before .before .before .args in
+    let cells = a .table .now in
+    let k = virtual-ready cells (a .count) (a .e) (c .before .before .before .before .before .pre .2) _ _ _ _ (c .before .before .e3 .given .1) in
+    (c .before .before .before .before .before .pre .0, k .0, k .1)
 
--- src/offering.rt:44:26
 enum-known-e-4 : tie.Need-enum-known-e-4
 enum-known-e-4 c = search needs
 
--- src/offering.rt:44:36
 detach-requires : tie.Need-detach-requires
-detach-requires c κs = ?
+detach-requires c κs = 
+    let a = c .before .before .before .before .before .args in
+    let cells = a .table .now in
+    (c .before .before .before .before .before .pre .0, detach-ready cells (a .count) (a .e) (c .before .before .before .before .before .pre .2) _ (c .before .before .e4 .given .1))
 
--- src/offering.rt:45:32
 enum-told : tie.Need-enum-told
 enum-told c = search needs
 
--- src/offering.rt:45:26
 clear-requires : tie.Need-clear-requires
-clear-requires c κs = ?
+clear-requires c κs = sound-length (c .before .before .before .before .args .table .now) (c .before .before .before .before .pre .0)
 
--- src/offering.rt:31:1
 same-length : tie.Need-same-length
 same-length c = search needs
 
--- src/offering.rt:31:1
 returns : tie.Need-returns
-returns c = ?
+returns c = 
+    let a = c .before .before .before .before .before .before .before .before .args in
+    let cells = a .table .now in
+    changed-as cells (c .before .before .tell .last .0) (a .e) _ (c .before .before .before .before .before .e .given .1) (c .before .before .tell .ensures)
 
--- src/offering.rt:31:1
 same-length-2 : tie.Need-same-length-2
 same-length-2 c = search needs
 
--- src/offering.rt:31:1
 returns-2 : tie.Need-returns-2
-returns-2 c = ?
+returns-2 c = 
+    let a = c .before .before .before .before .before .before .before .before .args in
+    let cells = a .table .now in
+    changed-as cells (c .before .before .attach .last .0) (a .e) _ (c .before .before .before .before .before .e2 .given .1) (c .before .before .attach .ensures)
 
--- src/offering.rt:31:1
 same-length-3 : tie.Need-same-length-3
 same-length-3 c = search needs
 
--- src/offering.rt:31:1
 returns-3 : tie.Need-returns-3
-returns-3 c = ?
+returns-3 c = 
+    let a = c .before .before .before .before .before .before .before .before .args in
+    let cells = a .table .now in
+    changed-as cells (c .before .before .attach-virtual .last .0) (a .e) _ (c .before .before .before .before .before .e3 .given .1) (c .before .before .attach-virtual .ensures)
 
--- src/offering.rt:31:1
 same-length-4 : tie.Need-same-length-4
 same-length-4 c = search needs
 
--- src/offering.rt:31:1
 returns-4 : tie.Need-returns-4
-returns-4 c = ?
+returns-4 c = 
+    let a = c .before .before .before .before .before .before .before .before .args in
+    let cells = a .table .now in
+    changed-as cells (c .before .before .detach .last .0) (a .e) _ (c .before .before .before .before .before .e4 .given .1) (c .before .before .detach .ensures)
 
--- src/offering.rt:31:1
 same-length-5 : tie.Need-same-length-5
 same-length-5 c = search needs
 
--- src/offering.rt:31:1
 returns-5 : tie.Need-returns-5
-returns-5 c = ?
+returns-5 c = 
+    let a = c .before .before .before .before .before .before .before .args in
+    let cells = a .table .now in
+    changed-as cells (c .before .before .clear .last .0) (a .e) _ (c .before .before .before .before .enum-told .given .1) (c .before .before .clear .ensures ∙ sym (empty-is cells))
 
--- src/offering.rt:31:1
 returns-6 : tie.Need-returns-6
-returns-6 c = ?
+returns-6 c = 
+    let a = c .before .before .args in
+    let cells = a .table .now in
+    unchanged cells (a .e) (c .before .before .pre .0) (c .match .keys6)
 
 pub follow-spec : {M : Type 1} → statement M
 follow-spec =

@@ -1,34 +1,36 @@
+use mathlib.Core.Path.{_≡_, refl, sym, _∙_, ap}
 use borrow.Author.Needs.{needs}
+use Rattle.rules.specs.Answer.{accepted, outcome}
+use Rattle.rules.specs.Offer.{appliedTo}
+use Rattle.table.proofs.Offers.{tell-ready, change-ready, attach-ready, virtual-ready, detach-ready, changed-as, unchanged, refused-by, accepted-by, offered-message, offered-unread, cells-by, fits-by, all-bytes}
 use Rattle.table.proofs.offering.offer_effect.Statement.{statement}
 use Rattle.table.proofs.offering.offer_effect.Tie as tie
-use Rattle.table.proofs.offering.offer_effect.Reads as reads
-use Rattle.table.proofs.offering.offer_effect.Lts as lts
-use Rattle.table.proofs.judge.judged.Reads as judged-reads
-use Rattle.table.proofs.offering.follow.Reads as follow-reads
 
--- src/offering.rt:55:9
 judged-requires : tie.Need-judged-requires
 judged-requires c κs = search needs
 
--- src/offering.rt:57:9
 same-length : tie.Need-same-length
 same-length c = search needs
 
--- src/offering.rt:57:9
 returns : tie.Need-returns
-returns c = ?
+returns c = 
+    let a = c .before .before .before .before .args in
+    let cells = a .table .now in
+    let k = refused-by (c .before .judged .result) _ (accepted (a .e)) (c .before .judged .ensures) (c .if1 .taken) in
+    (sym (ap outcome k), sym (ap (appliedTo cells) k))
 
--- src/offering.rt:62:5
 follow-requires : tie.Need-follow-requires
-follow-requires c κs = search needs
+follow-requires c κs = (c .before .before .before .before .before .pre .0, c .before .before .before .before .before .pre .1, sym (c .before .before .judged .ensures) ∙ c .before .if1 .left)
 
--- src/offering.rt:51:1
 same-length-2 : tie.Need-same-length-2
 same-length-2 c = search needs
 
--- src/offering.rt:51:1
 returns-2 : tie.Need-returns-2
-returns-2 c = ?
+returns-2 c = 
+    let a = c .before .before .before .before .before .before .before .before .args in
+    let cells = a .table .now in
+    let k = accepted-by (c .before .before .before .before .before .judged .result) _ (accepted (a .e)) (c .before .before .before .before .before .judged .ensures) (c .before .before .before .before .if1 .left) in
+    (sym (ap outcome k), c .before .before .follow .ensures ∙ sym (ap (appliedTo cells) k))
 
 pub offer-effect-spec : {M : Type 1} → statement M
 offer-effect-spec =

@@ -1,48 +1,50 @@
+use Prim.Native.Nat.{ℕ, _+_, _*_, _-_, _≤_, _<_}
+use native.Mathlib.Omega.{arith}
+use mathlib.Core.Path.{_≡_, refl, sym, _∙_, ap}
 use borrow.Author.Needs.{needs}
+use Rattle.protocol.specs.Answer.{answerOf}
+use Rattle.rules.specs.Answer.{accepted, outcome}
+use Rattle.table.proofs.Offers.{tell-ready, change-ready, attach-ready, virtual-ready, detach-ready, changed-as, unchanged, refused-by, accepted-by, offered-message, offered-unread, cells-by, fits-by, all-bytes}
 use Rattle.table.proofs.offering.offer_sound.Statement.{statement}
 use Rattle.table.proofs.offering.offer_sound.Tie as tie
-use Rattle.table.proofs.offering.offer_sound.Reads as reads
-use Rattle.table.proofs.offering.offer_sound.Lts as lts
-use Rattle.codec.proofs.read.Reads as read-reads
-use Rattle.codec.proofs.tail.Reads as tail-reads
-use Rattle.effects.proofs.effect_of.Reads as effect-of-reads
-use Rattle.table.proofs.offering.offer_effect.Reads as offer-effect-reads
 
--- src/offering.rt:71:11
 read-requires : tie.Need-read-requires
 read-requires c κs = search needs
 
--- src/offering.rt:72:27
 enum-known-m : tie.Need-enum-known-m
 enum-known-m c = search needs
 
--- src/offering.rt:72:53
 effect-of-requires : tie.Need-effect-of-requires
 effect-of-requires c κs = search needs
 
--- src/offering.rt:72:67
 tail-requires : tie.Need-tail-requires
 tail-requires c κs = search needs
 
--- src/offering.rt:72:33
 offer-effect-requires : tie.Need-offer-effect-requires
-offer-effect-requires c κs = ?
+offer-effect-requires c κs = 
+    let a = c .before .before .before .before .before .before .before .before .before .args in
+    let cells = a .table .now in
+    (c .before .before .before .before .before .before .before .before .before .pre, fits-by (a .message .now) (a .way) _ (c .before .effect-of .result) (all-bytes (a .message .now) (λ (k : ℕ). omega (arith, c .before .before .before .before .before .before .before .shared-slice-known .given k))) (sym (c .before .before .before .before .before .before .read .ensures) ∙ ap answerOf (c .before .before .before .before .m .given .1)) (c .before .effect-of .ensures))
 
--- src/offering.rt:73:28
 enum-known-number : tie.Need-enum-known-number
 enum-known-number c = search needs
 
--- src/offering.rt:67:1
 same-length : tie.Need-same-length
 same-length c = search needs
 
--- src/offering.rt:67:1
 returns : tie.Need-returns
-returns c = ?
+returns c = 
+    let a = c .before .before .before .before .before .before .before .before .before .before .before .before .args in
+    let cells = a .table .now in
+    let k = offered-message cells (a .message .now) (a .way) (c .before .before .before .before .before .before .before .before .before .before .before .before .pre) _ (c .before .before .before .before .effect-of .result) _ (sym (c .before .before .before .before .before .before .before .before .before .read .ensures) ∙ ap answerOf (c .before .before .before .before .before .before .before .m .given .1)) (c .before .before .before .before .effect-of .ensures) (c .before .before .before .tail .ensures) in
+    (c .before .before .offer-effect .ensures .0 ∙ sym (ap outcome k), c .before .before .offer-effect .ensures .1 ∙ sym (cells-by cells (a .message .now) (a .way) (c .before .before .before .before .before .before .before .before .before .before .before .before .pre) _ k))
 
--- src/offering.rt:67:1
 returns-2 : tie.Need-returns-2
-returns-2 c = ?
+returns-2 c = 
+    let a = c .before .before .before .before .before .before .args in
+    let cells = a .table .now in
+    let k = offered-unread cells (a .message .now) (a .way) (c .before .before .before .before .before .before .pre) _ _ (sym (c .before .before .before .read .ensures) ∙ ap answerOf (c .before .number .given .1)) in
+    (sym (ap outcome k), sym (cells-by cells (a .message .now) (a .way) (c .before .before .before .before .before .before .pre) _ k))
 
 pub offer-sound-spec : {M : Type 1} → statement M
 offer-sound-spec =

@@ -17,7 +17,7 @@ find-requires : tie.Need-find-requires
 find-requires c κs = search needs
 
 returns : tie.Need-returns
-returns c = 
+returns c =
     let a = c .before .before .before .args in
     let cells = a .table .now in
     let ok = c .before .before .before .pre in
@@ -26,7 +26,7 @@ returns c =
     sym (ap (λ (x : Option Facts). accepted (formatFrom x (a .mode))) (is ∙ ap (factsAt cells) (c .if1 .taken) ∙ nowhere cells)) ∙ sym (format-sound cells (a .port) (a .mode) ok)
 
 returns-2 : tie.Need-returns-2
-returns-2 c = 
+returns-2 c =
     let a = c .before .before .before .before .args in
     let cells = a .table .now in
     let ok = c .before .before .before .before .pre in
@@ -53,7 +53,7 @@ known-format-requires : tie.Need-known-format-requires
 known-format-requires c κs = search needs
 
 returns-3 : tie.Need-returns-3
-returns-3 c = 
+returns-3 c =
     let a = c .before .before .before .before .before .before .args in
     let cells = a .table .now in
     let ok = c .before .before .before .before .before .before .pre in

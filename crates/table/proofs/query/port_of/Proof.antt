@@ -20,7 +20,7 @@ find-requires : tie.Need-find-requires
 find-requires c κs = search needs
 
 returns : tie.Need-returns
-returns c = 
+returns c =
     let a = c .before .before .before .args in
     let cells = a .table .now in
     let ok = c .before .before .before .pre in
@@ -29,7 +29,7 @@ returns c =
     sym (ap (λ (x : Option Facts). accepted (portFacts x)) (is ∙ ap (factsAt cells) (c .if1 .taken) ∙ nowhere cells)) ∙ sym (port-sound cells (a .port) ok)
 
 wiring-at-requires : tie.Need-wiring-at-requires
-wiring-at-requires c κs = 
+wiring-at-requires c κs =
     let a = c .before .before .before .args in
     let cells = a .table .now in
     let ok = c .before .before .before .pre in
@@ -46,7 +46,7 @@ add-setup-at : tie.Need-add-setup-at
 add-setup-at c = search needs
 
 setup-at-requires : tie.Need-setup-at-requires
-setup-at-requires c κs = 
+setup-at-requires c κs =
     let a = c .before .before .before .before .args in
     let cells = a .table .now in
     let ok = c .before .before .before .before .pre in
@@ -61,7 +61,7 @@ add-setup-at-2 : tie.Need-add-setup-at-2
 add-setup-at-2 c = search needs
 
 setup-at-requires-2 : tie.Need-setup-at-requires-2
-setup-at-requires-2 c κs = 
+setup-at-requires-2 c κs =
     let a = c .before .before .before .before .before .args in
     let cells = a .table .now in
     let ok = c .before .before .before .before .before .pre in
@@ -82,7 +82,7 @@ shared-slice-read-t7 : tie.Need-shared-slice-read-t7
 shared-slice-read-t7 c = let a = c .before .before .before .before .before .before .before .args in omega (arith, sound-length (a .table .now) (c .before .before .before .before .before .before .before .pre), c .before .before .before .before .before .find .ensures .0, c .before .before .before .before .if1 .left)
 
 cast-t13 : tie.Need-cast-t13
-cast-t13 c = 
+cast-t13 c =
     let a = c .before .before .before .before .before .before .before .args in
     let cells = a .table .now in
     let ok = c .before .before .before .before .before .before .before .pre in
@@ -103,7 +103,7 @@ shared-slice-read-t18 : tie.Need-shared-slice-read-t18
 shared-slice-read-t18 c = let a = c .before .before .before .before .before .before .before .before .args in omega (arith, sound-length (a .table .now) (c .before .before .before .before .before .before .before .before .pre), c .before .before .before .before .before .before .find .ensures .0, c .before .before .before .before .before .if1 .left)
 
 cast-t19 : tie.Need-cast-t19
-cast-t19 c = 
+cast-t19 c =
     let a = c .before .before .before .before .before .before .before .before .args in
     let cells = a .table .now in
     let ok = c .before .before .before .before .before .before .before .before .pre in
@@ -112,7 +112,7 @@ cast-t19 c =
     record { fits = omega (arith, state-small cells i (a .port) ok (omega (arith, c .before .before .before .before .before .before .find .ensures .0, c .before .before .before .before .before .if1 .left)) is) }
 
 returns-2 : tie.Need-returns-2
-returns-2 c = 
+returns-2 c =
     let a = c .before .before .before .before .before .before .before .before .args in
     let cells = a .table .now in
     let ok = c .before .before .before .before .before .before .before .before .pre in

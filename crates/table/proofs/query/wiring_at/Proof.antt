@@ -23,7 +23,7 @@ shared-slice-read-kind : tie.Need-shared-slice-read-kind
 shared-slice-read-kind c = search needs
 
 returns : tie.Need-returns
-returns c = 
+returns c =
     let a = c .before .before .args in
     let t = a .table .now in
     let i = a .place in
@@ -42,14 +42,14 @@ shared-slice-read-t14 : tie.Need-shared-slice-read-t14
 shared-slice-read-t14 c = search needs
 
 cast-t15 : tie.Need-cast-t15
-cast-t15 c = 
+cast-t15 c =
     let a = c .before .before .before .before .args in
     let t = a .table .now in
     let i = a .place in
     record { fits = omega (arith, subst (λ (w : Wiring). firstPartner w < portCount) (wiring-joined (cellOf t i wiringIndex) (cellOf t i firstIndex) (cellOf t i secondIndex) (c .before .if2 .taken)) (c .before .before .before .before .pre .2)) }
 
 returns-2 : tie.Need-returns-2
-returns-2 c = 
+returns-2 c =
     let a = c .before .before .before .before .args in
     let t = a .table .now in
     let i = a .place in
@@ -68,7 +68,7 @@ shared-slice-read-t8 : tie.Need-shared-slice-read-t8
 shared-slice-read-t8 c = search needs
 
 cast-t17 : tie.Need-cast-t17
-cast-t17 c = 
+cast-t17 c =
     let a = c .before .before .before .before .args in
     let t = a .table .now in
     let i = a .place in
@@ -87,14 +87,14 @@ shared-slice-read-t22 : tie.Need-shared-slice-read-t22
 shared-slice-read-t22 c = search needs
 
 cast-t23 : tie.Need-cast-t23
-cast-t23 c = 
+cast-t23 c =
     let a = c .before .before .before .before .before .args in
     let t = a .table .now in
     let i = a .place in
     record { fits = omega (arith, subst (λ (w : Wiring). secondPartner w < portCount) (wiring-virtual (cellOf t i wiringIndex) (cellOf t i firstIndex) (cellOf t i secondIndex) (c .before .before .before .if1 .left) (c .before .before .if2 .left)) (c .before .before .before .before .before .pre .3)) }
 
 returns-3 : tie.Need-returns-3
-returns-3 c = 
+returns-3 c =
     let a = c .before .before .before .before .before .args in
     let t = a .table .now in
     let i = a .place in
