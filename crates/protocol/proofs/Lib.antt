@@ -6,6 +6,8 @@ pub mod FormTrip
 pub mod Properties
 pub mod RestTrip
 pub mod RoundTrip
+pub mod AcceptedMessage
+pub mod ValueKinds
 pub mod SelectionTrip
 pub mod Floats
 pub mod Selection

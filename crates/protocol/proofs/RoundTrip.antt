@@ -29,7 +29,7 @@ use Rattle.protocol.specs.declared.Way.{Way}
 use Rattle.protocol.proofs.Tests.{and-left, and-right}
 use Rattle.protocol.proofs.FormTrip.{was-read, form-written, Shaped, form-read}
 use Rattle.protocol.proofs.Selection.{headed as head, typed, long-enough}
-use Rattle.protocol.proofs.SelectionTrip.{narrow-read, narrow-written, narrow-widths, Fitting, Leads, leads}
+use Rattle.protocol.proofs.SelectionTrip.{Narrow, narrow-read, narrow-written, narrow-widths, Fitting, Leads, leads}
 
 -- ---- what was read is written back
 
@@ -38,18 +38,18 @@ not-refused : (b : Bool) (n p : ℕ) (x : Answer) (f : Form) (vs : List Value) �
 not-refused true n p x f vs e = let z : _≡_ {A = ℕ} 0 1 = cc in absurd (omega arith)
 not-refused false n p x f vs e = (refl, e)
 
-not-else : (b : Bool) (n p : ℕ) (x : Answer) (f : Form) (vs : List Value) → cond b x (Decode'.refused n p) ≡ accepted f vs → (b ≡ true) × (x ≡ accepted f vs)
+pub not-else : (b : Bool) (n p : ℕ) (x : Answer) (f : Form) (vs : List Value) → cond b x (Decode'.refused n p) ≡ accepted f vs → (b ≡ true) × (x ≡ accepted f vs)
 not-else true n p x f vs e = (refl, e)
 not-else false n p x f vs e = let z : _≡_ {A = ℕ} 0 1 = cc in absurd (omega arith)
 
 -- the facts of a header that reading passed
-record Headed (way : Way) (s : List ℕ) (f : Form) (vs : List Value) : Type 0 where
-  size : getD s 0 0 ≡ length s
-  least : 3 ≤ length s
-  hub : getD s 1 0 ≡ 0
-  rest : decodeWay way s ≡ accepted f vs
+pub record Headed (way : Way) (s : List ℕ) (f : Form) (vs : List Value) : Type 0 where
+  pub size : getD s 0 0 ≡ length s
+  pub least : 3 ≤ length s
+  pub hub : getD s 1 0 ≡ 0
+  pub rest : decodeWay way s ≡ accepted f vs
 
-headed : (way : Way) (s : List ℕ) (f : Form) (vs : List Value) → decode way s ≡ accepted f vs → Headed way s f vs
+pub headed : (way : Way) (s : List ℕ) (f : Form) (vs : List Value) → decode way s ≡ accepted f vs → Headed way s f vs
 unfolding decode
 headed way s f vs e =
     let n1 = not-refused (eqb (length s) 0) 1 0 _ f vs e in
@@ -65,13 +65,13 @@ headed way s f vs e =
     }
 
 -- the type that was found
-record TypeFound (way : Way) (s : List ℕ) (f : Form) (vs : List Value) : Type 0 where
-  type : MessageType
-  found : typeOf (getD s 2 0) (types way) ≡ some type
-  room : header + type .selectors ≤ length s
-  rest : decodeSelection (type .selection) s ≡ accepted f vs
+pub record TypeFound (way : Way) (s : List ℕ) (f : Form) (vs : List Value) : Type 0 where
+  pub type : MessageType
+  pub found : typeOf (getD s 2 0) (types way) ≡ some type
+  pub room : header + type .selectors ≤ length s
+  pub rest : decodeSelection (type .selection) s ≡ accepted f vs
 
-type-found : (way : Way) (s : List ℕ) (f : Form) (vs : List Value) → decodeWay way s ≡ accepted f vs → TypeFound way s f vs
+pub type-found : (way : Way) (s : List ℕ) (f : Form) (vs : List Value) → decodeWay way s ≡ accepted f vs → TypeFound way s f vs
 unfolding decodeWay decodeType
 type-found way s f vs e = go (typeOf (getD s 2 0) (types way)) refl e
   where
@@ -82,7 +82,7 @@ type-found way s f vs e = go (typeOf (getD s 2 0) (types way)) refl e
         record { type = t; found = k; room = ltb-false (length s) (header + t .selectors) (n .0); rest = n .1 }
 
 -- an accepted form is the one that was tried
-form-is : (g : Form) (s : List ℕ) (f : Form) (vs : List Value) → decodeForm g s ≡ accepted f vs → g ≡ f
+pub form-is : (g : Form) (s : List ℕ) (f : Form) (vs : List Value) → decodeForm g s ≡ accepted f vs → g ≡ f
 unfolding decodeForm
 form-is g s f vs e =
     let x : Fields = andThen (readFields s header (layout g .fields)) (readRest s (header + widths (layout g .fields)) (layout g .rest)) in
@@ -137,13 +137,19 @@ form-same f g e =
     let a : argument f ≡ argument g = eqb-true (argument f) (argument g) (and-right (eqb (formNumber f) (formNumber g)) (eqb (argument f) (argument g)) e) in
     sym (form-back f) ∙ ap (λ (k : ℕ). getD (formsBy (argument f)) k Form.lockStatusRequest) n ∙ ap (λ (k : ℕ). getD (formsBy k) (formNumber g) Form.lockStatusRequest) a ∙ form-back g
 
--- the selectors that reading followed lead writing to the same form
-record Chosen (c k : ℕ) (sel : Selection) (s : List ℕ) (f : Form) (vs : List Value) : Type 0 where
-  form : decodeForm f s ≡ accepted f vs
-  fit : Fitting c k f
-  writes : (last : ℕ) (opens : List ℕ) → encodeSelection sel f last vs opens ≡ encodeForm f vs opens
+-- the values of selectors are their bytes
+pub selectors-read : (k : ℕ) (f : Form) → Narrow k (layout f .fields) → (s : List ℕ) (vs : List Value) → decodeForm f s ≡ accepted f vs → (i : ℕ) → i < k → naturalAt vs i ≡ getD s (header + i) 0
+selectors-read k f narrow s vs e i h =
+    let both = was-read f s vs e .both in
+    ap (λ (l : List Value). naturalAt l i) (both .joined) ∙ narrow-read k (layout f .fields) narrow s header (both .first) (both .second) (both .first-is) i h
 
-chosen : (c k : ℕ) (sel : Selection) → Leads c k sel → (s : List ℕ) (f : Form) (vs : List Value) → decodeSelection sel s ≡ accepted f vs → Chosen c k sel s f vs
+-- the selectors that reading followed lead writing to the same form
+pub record Chosen (c k : ℕ) (sel : Selection) (s : List ℕ) (f : Form) (vs : List Value) : Type 0 where
+  pub form : decodeForm f s ≡ accepted f vs
+  pub fit : Fitting c k f
+  pub writes : (last : ℕ) (opens : List ℕ) → encodeSelection sel f last vs opens ≡ encodeForm f vs opens
+
+pub chosen : (c k : ℕ) (sel : Selection) → Leads c k sel → (s : List ℕ) (f : Form) (vs : List Value) → decodeSelection sel s ≡ accepted f vs → Chosen c k sel s f vs
 chosen c k (always g) lead s f vs e =
     let same : g ≡ f = form-is g s f vs e in
     record {
@@ -155,11 +161,7 @@ chosen c k (select offset rule next) lead s f vs e =
     let v : ℕ = getD s (header + offset) 0 in
     let n = not-else (rule v) 7 (header + offset) (decodeSelection (next v) s) f vs e in
     let deeper = chosen c k (next v) (lead .1 v) s f vs (n .1) in
-    let both = was-read f s vs (deeper .form) .both in
-    let is : naturalAt vs offset ≡ v =
-    ap (λ (l : List Value). naturalAt l offset) (both .joined)
-    ∙ narrow-read k (layout f .fields) (deeper .fit .1) s header (both .first) (both .second) (both .first-is) offset (lead .0)
-    in
+    let is : naturalAt vs offset ≡ v = selectors-read k f (deeper .fit .1) s vs (deeper .form) offset (lead .0) in
     record { form = deeper .form; fit = deeper .fit; writes = λ last opens. rw (is, n .0) (deeper .writes last opens) }
 
 framed-back : (s : List ℕ) (c : ℕ) → 3 ≤ length s → getD s 0 0 ≡ length s → getD s 1 0 ≡ 0 → getD s 2 0 ≡ c → framed c (drop header s) ≡ s
