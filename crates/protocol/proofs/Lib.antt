@@ -3,6 +3,7 @@ pub mod Examples
 pub mod FieldTrip
 pub mod FieldsTrip
 pub mod FormTrip
+pub mod Overwrite
 pub mod Properties
 pub mod RestTrip
 pub mod RoundTrip

@@ -126,7 +126,3 @@ firstOutside at (s ∷ ss) = cond (slotFits s) (firstOutside (at + length (slotB
 -- a message of slots, which are it from its type byte on, and of open bytes
 abbrev pub messageBytes : List Slot → List ℕ → List ℕ
 messageBytes slots opens = (2 + length (slotsBytes slots ++ opens)) ∷ 0 ∷ (slotsBytes slots ++ opens)
-
--- bytes laid over a list from a place on
-unfoldable pub over : List ℕ → ℕ → List ℕ → List ℕ
-over out at bytes = take at out ++ bytes ++ drop (at + length bytes) out

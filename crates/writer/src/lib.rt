@@ -21,7 +21,8 @@ ghost use Prim.Native.Nat.{_+_, _≤_};
 ghost use lib.ListN.{length};
 ghost use Rattle.protocol.specs.Encode.{encode, encoded};
 ghost use Rattle.writer.specs.Writing.{lentAfter, limited, writtenOf};
-ghost use Rattle.writer.specs.Slot.{firstOutside, messageBytes, over, slotsBytes};
+ghost use Rattle.protocol.specs.Overwrite.{overwrite};
+ghost use Rattle.writer.specs.Slot.{firstOutside, messageBytes, slotsBytes};
 
 // The place of the first field that does not hold its value; 0 where all do.
 fn first_outside(slots: [Slot; 11]) -> u16
@@ -54,10 +55,10 @@ fn widths(slots: [Slot; 11]) -> usize
     total
 }
 
-// Lays the bytes of the slots over those of `out`, from the type byte on.
+// Overwrites `out` with the bytes of the slots, from the type byte on.
 fn put_slots(out: &mut [u8], slots: [Slot; 11])
     requires { ⌜ (length slots ≡ 11) × (firstOutside 2 slots ≡ 0) × (2 + length (slotsBytes slots) ≤ length (now out)) ⌝ }
-    ensures { λ _. ⌜ now (out .exit) ≡ over (now (out .entry)) 2 (slotsBytes slots) ⌝ }
+    ensures { λ _. ⌜ now (out .exit) ≡ overwrite (now (out .entry)) 2 (slotsBytes slots) ⌝ }
 {
     let mut at = 2;
     let mut i = 0;

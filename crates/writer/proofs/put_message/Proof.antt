@@ -8,7 +8,7 @@ use Rattle.protocol.specs.Encode.{Encoded}
 use Rattle.writer.specs.Writing.{writtenOf, lentAfter}
 use Rattle.protocol.specs.declared.Written.the-variants.{Length}
 use Rattle.writer.proofs.Whole.{size-is, too-short, long-enough, header-length, message-put}
-use Rattle.writer.specs.Slot.{over}
+use Rattle.protocol.specs.Overwrite.{overwrite}
 use borrow.Author.Needs.{needs}
 use Rattle.writer.proofs.put_message.Statement.{statement}
 use Rattle.writer.proofs.put_message.Tie as tie
@@ -53,7 +53,7 @@ returns-2 c =
     let enough = long-enough (c .before .before .before .before .before .before .before .before .before .before .before .before .args .slots) (c .before .before .before .before .before .before .before .before .before .before .before .before .args .«open» .now) (c .before .before .before .before .before .before .before .before .before .widths .result) (c .before .before .before .before .before .before .before .before .before .widths .ensures .0) (length (c .before .before .before .before .before .before .before .before .before .before .before .before .args .out .now)) (c .before .before .before .before .before .before .before .before .if1 .left) in
     let put = message-put (c .before .before .before .before .before .before .before .before .before .before .before .before .args .slots) (c .before .before .before .before .before .before .before .before .before .before .before .before .args .«open» .now) (c .before .before .before .before .before .before .before .before .before .widths .result) (c .before .before .before .before .before .before .before .before .before .widths .ensures .0) (c .before .before .before .before .before .before .before .before .before .before .before .before .args .out .now) (c .before .before .before .before .before .before .before .before .if1 .left) in (
       ap Length (size-is (c .before .before .before .before .before .before .before .before .before .before .before .before .args .slots) (c .before .before .before .before .before .before .before .before .before .before .before .before .args .«open» .now) (c .before .before .before .before .before .before .before .before .before .widths .result) (c .before .before .before .before .before .before .before .before .before .widths .ensures .0)) ∙ sym (ap writtenOf enough),
-      c .before .before .put-bytes .ensures ∙ ap (λ (l : List ℕ). over l (2 + c .before .before .before .before .before .before .before .before .before .widths .result) (c .before .before .before .before .before .before .before .before .before .before .before .before .args .«open» .now)) (c .before .before .before .before .before .before .put-slots .ensures) ∙ put ∙ sym (ap (λ (x : Encoded). lentAfter x (c .before .before .before .before .before .before .before .before .before .before .before .before .args .out .now)) enough),
+      c .before .before .put-bytes .ensures ∙ ap (λ (l : List ℕ). overwrite l (2 + c .before .before .before .before .before .before .before .before .before .widths .result) (c .before .before .before .before .before .before .before .before .before .before .before .before .args .«open» .now)) (c .before .before .before .before .before .before .put-slots .ensures) ∙ put ∙ sym (ap (λ (x : Encoded). lentAfter x (c .before .before .before .before .before .before .before .before .before .before .before .before .args .out .now)) enough),
     )
 
 pub put-message-spec : {M : Type 1} → statement M
