@@ -142,7 +142,7 @@ form-written f s b vs e =
     in
     let after : afterFields fs vs ≡ both .second = wrote-after fs header vs (part s header (widths fs)) (both .second) fields in
     let right : restFits r (afterFields fs vs) (length opens) ≡ true = ap (λ (l : List Value). restFits r l (length opens)) after ∙ w .right in
-    rw (right, fields, w .written, front-back s (widths fs))
+    rw (right, fields, w .written) (ap (λ (l : List ℕ). encoded (framed (code f) l)) (front-back s (widths fs)))
 
 -- ---- what was written is read back
 
