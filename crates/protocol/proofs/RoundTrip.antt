@@ -188,9 +188,7 @@ values-written way s b f vs e =
 
 -- ---- what was written is read back
 
--- no message is longer than the longest
-
--- the greatest size, where the fields end at a place
+-- the greatest size that fits, where the fields end at a place
 abbrev greatestSize : Rest → ℕ → ℕ
 greatestSize nothing end = end
 greatestSize (openRun least most) end = end + most
@@ -203,6 +201,7 @@ fits-greatest (words most) end n e =
     leb-true n (end + 2 * most)
     (and-right (leb (end + 2) n) (leb n (end + 2 * most)) (and-left (leb (end + 2) n && leb n (end + 2 * most)) (eqb ((n - end) % 2) 0) e))
 
+-- which is no more than the longest message
 abbrev Short : Form → Type 0
 Short f = greatestSize (layout f .rest) (header + widths (layout f .fields)) ≤ longestMessage
 

@@ -1,4 +1,4 @@
--- Demand 2, as statements about the definitions. They are proved in proofs/RoundTrip.antt, once over the layouts.
+-- Demand 2, as statements about the definitions. They are proved in proofs/RoundTrip.antt, the first in proofs/AcceptedMessage.antt, once over the layouts.
 use Prim.Native.Nat.{ℕ}
 use mathlib.Core.Path.{_≡_}
 use mathlib.Core.List.{List}
