@@ -5,11 +5,11 @@ use lib.ListN.{length}
 use Rattle.protocol.specs.Encode.{Encoded, refused, encoded, encode}
 use Rattle.writer.specs.Writing.{limited}
 use Rattle.protocol.specs.declared.Way.{Way}
-use Rattle.message_cells.specs.declared.given.Given.{Given}
-use Rattle.message_cells.specs.declared.given.Given.the-variants.{Found, Nothing}
+use Rattle.message_cells.specs.declared.from_row.FromRow.{FromRow}
+use Rattle.message_cells.specs.declared.from_row.FromRow.the-variants.{Found, Nothing}
 
 -- writing what cells stand for into so much room; cells that are no message's are 255
-abbrev pub writtenFrom : Given → ℕ → Way → List ℕ → Encoded
+abbrev pub writtenFrom : FromRow → ℕ → Way → List ℕ → Encoded
 writtenFrom (Found m) room way opens = limited room (encode way m opens)
 writtenFrom Nothing room way opens = refused 255 0
 

@@ -7,9 +7,9 @@ use crate::fill::put;
 use crate::way::way_of;
 use codec::open_part;
 use codec::read;
-use message_cells::given::Given;
-use message_cells::given::find;
-use message_cells::message::message_cells;
+use message_cells::from_row::FromRow;
+use message_cells::from_row::find;
+use message_cells::message::message_row;
 use protocol::Reading;
 use protocol::Written;
 use writer::write;
@@ -19,8 +19,8 @@ ghost use lib.ListN.{length};
 ghost use Rattle.protocol.specs.Answer.{answerOf};
 ghost use Rattle.protocol.specs.Encode.{Encoded};
 ghost use Rattle.writer.specs.Writing.{lentAfter, writtenOf};
-ghost use Rattle.message_cells.specs.Cells.{cellsAfter, cellsOf, filled, openStart, wayOf};
-ghost use Rattle.message_cells.specs.Given.{givenOf};
+ghost use Rattle.message_cells.specs.Row.{rowAfter, rowOf, filled, openStart, wayOf};
+ghost use Rattle.message_cells.specs.FromRow.{messageFromRow};
 ghost use Rattle.capi.specs.Written.{answerNumber, writtenFrom};
 
 // Where the last `count` of `size` bytes start; 0 where there are none.
@@ -34,7 +34,7 @@ fn open_start(size: u64, count: u64) -> u64
 // The cells of a reading of a message of `size` bytes, the last `count` of which are open.
 fn cells_of(reading: Reading, size: u64, count: u64) -> [u64; 20]
     requires { ⌜ count ≤ size ⌝ }
-    ensures { λ r. ⌜ r ≡ cellsOf size count (answerOf reading) ⌝ }
+    ensures { λ r. ⌜ r ≡ rowOf size count (answerOf reading) ⌝ }
 {
     match reading {
         Reading::Refused { number, place } => {
@@ -44,7 +44,7 @@ fn cells_of(reading: Reading, size: u64, count: u64) -> [u64; 20]
             cells
         }
         Reading::Accepted(m) => {
-            let mut cells = message_cells(m);
+            let mut cells = message_row(m);
             cells[3] = open_start(size, count);
             cells[4] = count;
             cells
@@ -57,7 +57,7 @@ fn cells_of(reading: Reading, size: u64, count: u64) -> [u64; 20]
 // the values from left to right. Returns 20; 0 where there are fewer cells, of which none changes.
 #[no_mangle]
 pub extern "C" fn castanetash_read(message: &[u8], way: u8, cells: &mut [u64]) -> usize
-    ensures { λ r. ⌜ (r ≡ filled (now (cells .entry))) × (now (cells .exit) ≡ cellsAfter way (now (message .entry)) (now (cells .entry))) ⌝ }
+    ensures { λ r. ⌜ (r ≡ filled (now (cells .entry))) × (now (cells .exit) ≡ rowAfter way (now (message .entry)) (now (cells .entry))) ⌝ }
 {
     if cells.len() < 20 {
         return 0;
@@ -85,10 +85,10 @@ fn number_of(written: Written) -> u64
 // and nothing changes. 255 is for cells that are no message's.
 #[no_mangle]
 pub extern "C" fn castanetash_write(cells: &[u64], way: u8, open: &[u8], out: &mut [u8]) -> u64
-    ensures { λ r. ⌜ (r ≡ answerNumber (writtenFrom (givenOf (now (cells .entry))) (length (now (out .entry))) (wayOf way) (now («open» .entry)))) × (now (out .exit) ≡ lentAfter (writtenFrom (givenOf (now (cells .entry))) (length (now (out .entry))) (wayOf way) (now («open» .entry))) (now (out .entry))) ⌝ }
+    ensures { λ r. ⌜ (r ≡ answerNumber (writtenFrom (messageFromRow (now (cells .entry))) (length (now (out .entry))) (wayOf way) (now («open» .entry)))) × (now (out .exit) ≡ lentAfter (writtenFrom (messageFromRow (now (cells .entry))) (length (now (out .entry))) (wayOf way) (now («open» .entry))) (now (out .entry))) ⌝ }
 {
     match find(cells) {
-        Given::Nothing => 255 * 4294967296,
-        Given::Found(m) => number_of(write(m, way_of(way), open, out)),
+        FromRow::Nothing => 255 * 4294967296,
+        FromRow::Found(m) => number_of(write(m, way_of(way), open, out)),
     }
 }

@@ -12,7 +12,7 @@ use table_cells::outcome_number;
 use table_cells::port_row;
 ghost use mathlib.Core.Path.{_≡_};
 ghost use Rattle.rules.specs.Offer.{cellsAfter, handCells, offerCells};
-ghost use Rattle.message_cells.specs.Cells.{wayOf};
+ghost use Rattle.message_cells.specs.Row.{wayOf};
 ghost use Rattle.table.specs.Outcome.{emptied, emptyingSays, saidBy};
 ghost use Rattle.table.specs.Query.{formatCells, portCells};
 ghost use Rattle.table_cells.specs.Rows.{formatRow, handedRow, portRow, saidNumber};

@@ -33,7 +33,7 @@ ghost use Prim.Native.Nat.{ℕ, _≤_};
 ghost use mathlib.Core.List.{List};
 ghost use lib.ListN.{length, drop};
 ghost use Rattle.protocol.specs.declared.Way.the-variants.{Down, Up};
-ghost use Rattle.protocol.specs.Decode.{accepted, decode, decodeWay, openOf, openPart};
+ghost use Rattle.protocol.specs.Decode.{accepted, decode, decodeWay, header, openOf, openPart};
 ghost use Rattle.protocol.specs.Answer.{answerOf, formOf, valuesOf};
 
 // One message: refusals 1 to 7 in their order, or its form and fields.
@@ -44,7 +44,7 @@ pub fn read(message: &[u8], way: Way) -> Reading
         return refuse(1, 0);
     }
     let size = message[0];
-    if 128 <= size {
+    if 127 < size {
         return refuse(2, 0);
     }
     if size as usize != message.len() {
@@ -64,7 +64,7 @@ pub fn read(message: &[u8], way: Way) -> Reading
 
 // The types that go down.
 fn read_down(s: &[u8]) -> Reading
-    requires { ⌜ 3 ≤ length (now s) ⌝ }
+    requires { ⌜ header ≤ length (now s) ⌝ }
     ensures { λ r. ⌜ answerOf r ≡ decodeWay Down (now (s .entry)) ⌝ }
 {
     let code = s[2];
@@ -85,7 +85,7 @@ fn read_down(s: &[u8]) -> Reading
 
 // The types that come up.
 fn read_up(s: &[u8]) -> Reading
-    requires { ⌜ 3 ≤ length (now s) ⌝ }
+    requires { ⌜ header ≤ length (now s) ⌝ }
     ensures { λ r. ⌜ answerOf r ≡ decodeWay Up (now (s .entry)) ⌝ }
 {
     let code = s[2];

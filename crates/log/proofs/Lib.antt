@@ -4,8 +4,8 @@ pub mod Decimals
 pub mod Endings
 pub mod Examples
 pub mod Laws
-pub mod Laying
 pub mod Lines
 pub mod OneMore
+pub mod OverwriteIfRoom
 pub mod Records
 pub mod Spelling

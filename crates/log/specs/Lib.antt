@@ -1,6 +1,6 @@
 pub mod Dataset
 pub mod Decimal
-pub mod Laid
+pub mod OverwriteIfRoom
 pub mod Record
 pub mod Line
 pub mod Output

@@ -4,7 +4,8 @@ ghost use mathlib.Core.List.{[], _∷_};
 ghost use Prim.Native.Nat.{_+_, _≤_};
 ghost use lib.ListN.{length};
 ghost use Rattle.log.specs.Decimal as Decimal;
-ghost use Rattle.log.specs.Laid.{over, laid};
+ghost use Rattle.protocol.specs.Overwrite.{overwrite};
+ghost use Rattle.log.specs.OverwriteIfRoom.{overwriteIfRoom};
 
 // How many decimal digits a number has.
 fn places(n: u64) -> usize
@@ -19,10 +20,10 @@ fn places(n: u64) -> usize
     k
 }
 
-// Lays a number's `k` digits over those of `out` from a place on, the last one first.
+// Overwrites `out` from a place on with a number's `k` digits, the last one first.
 fn spell(out: &mut [u8], at: usize, k: usize, n: u64)
     requires { ⌜ (k ≡ length (Decimal.decimal n)) × (at + k ≤ length (now out)) ⌝ }
-    ensures { λ _. ⌜ now (out .exit) ≡ over (now (out .entry)) at (Decimal.decimal n) ⌝ }
+    ensures { λ _. ⌜ now (out .exit) ≡ overwrite (now (out .entry)) at (Decimal.decimal n) ⌝ }
 {
     let mut i = k;
     let mut rest = n;
@@ -36,7 +37,7 @@ fn spell(out: &mut [u8], at: usize, k: usize, n: u64)
 
 // Puts a number's decimal digits at an index, where they fit, and answers how many there are.
 pub fn put_decimal(out: &mut [u8], at: usize, n: u64) -> usize
-    ensures { λ r. ⌜ (r ≡ length (Decimal.decimal n)) × (r ≤ 20) × (now (out .exit) ≡ laid (now (out .entry)) at (Decimal.decimal n)) ⌝ }
+    ensures { λ r. ⌜ (r ≡ length (Decimal.decimal n)) × (r ≤ 20) × (now (out .exit) ≡ overwriteIfRoom (now (out .entry)) at (Decimal.decimal n)) ⌝ }
 {
     let k = places(n);
     if out.len() < k {
@@ -51,17 +52,17 @@ pub fn put_decimal(out: &mut [u8], at: usize, n: u64) -> usize
 
 // Puts one byte at an index, where that is inside.
 pub fn put_byte(out: &mut [u8], at: usize, b: u8)
-    ensures { λ _. ⌜ now (out .exit) ≡ laid (now (out .entry)) at (b ∷ []) ⌝ }
+    ensures { λ _. ⌜ now (out .exit) ≡ overwriteIfRoom (now (out .entry)) at (b ∷ []) ⌝ }
 {
     if at < out.len() {
         out[at] = b;
     }
 }
 
-// Lays bytes over those of `out` from a place on.
+// Overwrites `out` from a place on with bytes.
 fn copy(out: &mut [u8], at: usize, bytes: &[u8])
     requires { ⌜ at + length (now bytes) ≤ length (now out) ⌝ }
-    ensures { λ _. ⌜ now (out .exit) ≡ over (now (out .entry)) at (now (bytes .entry)) ⌝ }
+    ensures { λ _. ⌜ now (out .exit) ≡ overwrite (now (out .entry)) at (now (bytes .entry)) ⌝ }
 {
     let mut i = 0;
     while i < bytes.len() {
@@ -72,7 +73,7 @@ fn copy(out: &mut [u8], at: usize, bytes: &[u8])
 
 // Puts bytes at an index, where they fit.
 pub fn put_bytes(out: &mut [u8], at: usize, bytes: &[u8])
-    ensures { λ _. ⌜ now (out .exit) ≡ laid (now (out .entry)) at (now (bytes .entry)) ⌝ }
+    ensures { λ _. ⌜ now (out .exit) ≡ overwriteIfRoom (now (out .entry)) at (now (bytes .entry)) ⌝ }
 {
     if out.len() < bytes.len() {
         return;

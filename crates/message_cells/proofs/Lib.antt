@@ -1,4 +1,4 @@
-pub mod Cells
+pub mod RowSize
 pub mod Settled
 pub mod Built
 pub mod Same

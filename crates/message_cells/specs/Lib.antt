@@ -1,2 +1,2 @@
-pub mod Cells
-pub mod Given
+pub mod Row
+pub mod FromRow

@@ -1,14 +1,15 @@
-// An accepted message as cells.
+// An accepted message as a row of numbers.
+use crate::ROW_SIZE;
 use protocol::Message;
 ghost use mathlib.Core.Path.{_≡_};
 ghost use lib.Ieee.{binary32, toBits};
 ghost use Rattle.protocol.specs.Field as Field;
 ghost use Rattle.protocol.specs.Answer.{formOf, valuesOf};
-ghost use Rattle.message_cells.specs.Cells.{acceptedCells, cell, row};
+ghost use Rattle.message_cells.specs.Row.{acceptedRow, numberOf, row};
 
 // A signed number in two's complement of 64 bits.
 fn signed(v: i32) -> u64
-    ensures { λ r. ⌜ r ≡ cell (Field.integer v) ⌝ }
+    ensures { λ r. ⌜ r ≡ numberOf (Field.integer v) ⌝ }
 {
     if 0 <= v {
         v as u64
@@ -28,8 +29,8 @@ pub fn float(x: f32) -> u64
     }
 }
 
-// The cells of an accepted message with up to seven values.
-fn row(form: u64, count: u64, v: [u64; 7]) -> [u64; 20]
+// The row of an accepted message with up to seven values.
+fn row(form: u64, count: u64, v: [u64; 7]) -> [u64; ROW_SIZE]
     ensures { λ r. ⌜ r ≡ row form count v ⌝ }
 {
     [
@@ -56,9 +57,9 @@ fn row(form: u64, count: u64, v: [u64; 7]) -> [u64; 20]
     ]
 }
 
-// The cells of an accepted message, but for where its open bytes lie.
-pub fn message_cells(m: Message) -> [u64; 20]
-    ensures { λ r. ⌜ r ≡ acceptedCells (formOf m) 0 0 (valuesOf m) ⌝ }
+// The row of an accepted message, but for where its open bytes lie.
+pub fn message_row(m: Message) -> [u64; ROW_SIZE]
+    ensures { λ r. ⌜ r ≡ acceptedRow (formOf m) 0 0 (valuesOf m) ⌝ }
 {
     match m {
         Message::PropertyCommand {

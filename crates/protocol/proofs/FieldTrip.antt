@@ -86,7 +86,7 @@ read-step float p s at b h ws rest e =
     (ap (lowFirst 4) (toBits-ofBits binary32 n (omega (arith, little-lt s at 4 b h)) (not-nan x (k .0))) ∙ low-little s at 4 b h))
 read-step (fixed bytes) p s at b h ws rest e =
     let k = same-part bytes s at ws h e in
-    rw (k .1, k .0)
+    rw (k .1, k .0) refl
 
 -- what was taken was held
 pub record Taken (f : Field) (vs : List Value) (bs : List ℕ) (ws : List Value) : Type 0 where

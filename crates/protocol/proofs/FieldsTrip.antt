@@ -8,7 +8,7 @@ use lib.Seq.{take-add, drop-drop, take-at, drop-at}
 use Rattle.protocol.specs.Number.{Bytes}
 use Rattle.protocol.specs.Field.{Field, Value, width, widths, Fields, values, andThen, readField, readFields}
 use Rattle.protocol.specs.Field as Field'
-use Rattle.protocol.specs.Encode.{Step, good, bad, stepField, Written, wrote, before, writeFields, afterFields, frontValues}
+use Rattle.protocol.specs.Encode.{FieldStep, good, bad, stepField, Written, wrote, before, writeFields, afterFields, frontValues}
 use Rattle.protocol.specs.Encode as Encode'
 use Rattle.protocol.proofs.Bytes.{part, part-length}
 use Rattle.protocol.proofs.FieldTrip.{Proper, read-step, step-read, step-length, step-after}
@@ -34,11 +34,11 @@ both-read (values vs) (Field'.outside at) ws e = let z : _≡_ {A = ℕ} 0 1 = c
 both-read (values vs) (values us) ws e = record { first = vs; second = us; first-is = refl; second-is = refl; joined = cc }
 
 -- a field, and then those after it
-abbrev stepping : Field → List Field → ℕ → Step → Written
+abbrev stepping : Field → List Field → ℕ → FieldStep → Written
 stepping f fs place bad = Encode'.outside place
 stepping f fs place (good cs us) = before cs (writeFields (place + width f) fs us)
 
-split : (st : Step) (f : Field) (fs : List Field) (place : ℕ) → elim st [ bad ↦ Encode'.outside place | good bs ws ↦ before bs (writeFields (place + width f) fs ws) ] ≡ stepping f fs place st
+split : (st : FieldStep) (f : Field) (fs : List Field) (place : ℕ) → elim st [ bad ↦ Encode'.outside place | good bs ws ↦ before bs (writeFields (place + width f) fs ws) ] ≡ stepping f fs place st
 split bad f fs place = refl
 split (good cs us) f fs place = refl
 
@@ -72,7 +72,7 @@ before-wrote : (cs : List ℕ) (w : Written) (bs : List ℕ) (ws : List Value) �
 before-wrote cs (Encode'.outside at) bs ws e = let z : _≡_ {A = ℕ} 0 1 = cc in absurd (omega arith)
 before-wrote cs (wrote ds us) bs ws e = (ds, cc, cc)
 
-stepped : (f : Field) (fs : List Field) (place : ℕ) (vs : List Value) (bs : List ℕ) (ws : List Value) (st : Step) → stepField f vs ≡ st → stepping f fs place st ≡ wrote bs ws → Stepped f fs place vs bs ws
+stepped : (f : Field) (fs : List Field) (place : ℕ) (vs : List Value) (bs : List ℕ) (ws : List Value) (st : FieldStep) → stepField f vs ≡ st → stepping f fs place st ≡ wrote bs ws → Stepped f fs place vs bs ws
 stepped f fs place vs bs ws bad k e = let z : _≡_ {A = ℕ} 0 1 = cc in absurd (omega arith)
 stepped f fs place vs bs ws (good cs us) k e =
     let r = before-wrote cs (writeFields (place + width f) fs us) bs ws e in

@@ -142,7 +142,7 @@ form-written f s b vs e =
     in
     let after : afterFields fs vs ≡ both .second = wrote-after fs header vs (part s header (widths fs)) (both .second) fields in
     let right : restFits r (afterFields fs vs) (length opens) ≡ true = ap (λ (l : List Value). restFits r l (length opens)) after ∙ w .right in
-    rw (right, fields, w .written, front-back s (widths fs))
+    rw (right, fields, w .written) (ap (λ (l : List ℕ). encoded (framed (code f) l)) (front-back s (widths fs)))
 
 -- ---- what was written is read back
 
@@ -208,8 +208,8 @@ pub record Wrote (f : Form) (vs : List Value) (opens t : List ℕ) : Type 0 wher
   pub left : List Value
   pub front-is : writeFields header (layout f .fields) vs ≡ wrote front left
   pub back : List ℕ
-  pub over : List Value
-  pub back-is : writeRest (header + widths (layout f .fields)) (layout f .rest) left opens ≡ wrote back over
+  pub unused : List Value
+  pub back-is : writeRest (header + widths (layout f .fields)) (layout f .rest) left opens ≡ wrote back unused
   pub bytes : t ≡ framed (code f) (front ++ back)
 
 record Joined (at : ℕ) (r : Rest) (opens : List ℕ) (w : Written) (c : ℕ) (t : List ℕ) : Type 0 where
@@ -217,8 +217,8 @@ record Joined (at : ℕ) (r : Rest) (opens : List ℕ) (w : Written) (c : ℕ) (
   left : List Value
   front-is : w ≡ wrote front left
   back : List ℕ
-  over : List Value
-  back-is : writeRest at r left opens ≡ wrote back over
+  unused : List Value
+  back-is : writeRest at r left opens ≡ wrote back unused
   bytes : t ≡ framed c (front ++ back)
 
 joined : (f : Form) (at : ℕ) (r : Rest) (opens : List ℕ) (w : Written) (t : List ℕ) → closed f (thenRest at r opens w) ≡ encoded t → Joined at r opens w (code f) t
@@ -227,7 +227,7 @@ joined f at r opens (wrote bs vs) t e = second (writeRest at r vs opens) refl e
   where
     second : (w : Written) → writeRest at r vs opens ≡ w → closed f (before bs w) ≡ encoded t → Joined at r opens (wrote bs vs) (code f) t
     second (Encode'.outside place) k g = let z : _≡_ {A = ℕ} 0 1 = cc in absurd (omega arith)
-    second (wrote cs xs) k g = record { front = bs; left = vs; front-is = refl; back = cs; over = xs; back-is = k; bytes = cc }
+    second (wrote cs xs) k g = record { front = bs; left = vs; front-is = refl; back = cs; unused = xs; back-is = k; bytes = cc }
 
 pub was-written : (f : Form) (vs : List Value) (opens t : List ℕ) → encodeForm f vs opens ≡ encoded t → Wrote f vs opens t
 unfolding encodeForm
@@ -238,7 +238,7 @@ was-written f vs opens t e =
     ⊎-elim
     (λ (yes : restFits r (afterFields fs vs) (length opens) ≡ true).
     let j = joined f end r opens (writeFields header fs vs) t (rw yes at e) in
-    record { right = yes; front = j .front; left = j .left; front-is = j .front-is; back = j .back; over = j .over; back-is = j .back-is; bytes = j .bytes })
+    record { right = yes; front = j .front; left = j .left; front-is = j .front-is; back = j .back; unused = j .unused; back-is = j .back-is; bytes = j .bytes })
     (λ (no : restFits r (afterFields fs vs) (length opens) ≡ false).
     let a : Encode'.refused 6 0 ≡ encoded t = rw no at e in
     let z : _≡_ {A = ℕ} 0 1 = cc in absurd (omega arith))
@@ -270,7 +270,7 @@ form-read f vs opens t shape e =
     let shape′ : Shaped r (w .left) = rw after at shape in
     let right′ : restFits r (w .left) (length opens) ≡ true = rw after at (w .right) in
     let fields = fields-read fs (proper f) header vs (w .front) (w .left) (w .front-is) u header (omega arith) first in
-    let back = rest-read r (w .left) opens (w .back) (w .over) u end shape′ right′ (w .back-is) rest (omega arith) in
+    let back = rest-read r (w .left) opens (w .back) (w .unused) u end shape′ right′ (w .back-is) rest (omega arith) in
     let read : decodeForm f u ≡ accepted f (settledValues (layout f) vs) = rw (back .size, fields .read, back .read, fields .is, after) in
     record {
       body = body;

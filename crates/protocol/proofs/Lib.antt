@@ -3,9 +3,12 @@ pub mod Examples
 pub mod FieldTrip
 pub mod FieldsTrip
 pub mod FormTrip
+pub mod Overwrite
 pub mod Properties
 pub mod RestTrip
 pub mod RoundTrip
+pub mod AcceptedMessage
+pub mod ValueKinds
 pub mod SelectionTrip
 pub mod Floats
 pub mod Selection

@@ -1,9 +1,10 @@
 -- Demand 2: what reading accepts, writing gives back byte for byte; what writing accepts, reading gives back field for field.
-use Prim.Native.Nat.{ℕ, _+_, _-_, _%_, _≤_, _<_}
+use Prim.Native.Nat.{ℕ, _+_, _*_, _-_, _%_, _≤_, _<_}
 use native.Mathlib.Omega.{arith}
 use mathlib.Core.Path.{_≡_, refl, sym, _∙_, ap}
 use mathlib.Core.Bool.{Bool, true, false, cond, _&&_}
 use mathlib.Core.List.{List, [], _∷_}
+use mathlib.Core.Logic.{⊎-elim}
 use mathlib.Core.Option.{Option, none, some}
 use borrow.Author.Tests.{eqb-true, eq-eqb, ne-eqb, leb-true, lt-leb, ltb-false, le-ltb}
 use lib.Dec.{eqb, leb, ltb}
@@ -13,10 +14,10 @@ use Rattle.protocol.specs.Number.{Bytes}
 use Rattle.protocol.specs.Field.{Field, Value, natural, Fields, values, widths, andThen, readFields}
 use Rattle.protocol.specs.Field as Field'
 use Rattle.protocol.specs.Form
-use Rattle.protocol.specs.Form.{Form, layout, longestModeText, fits, readRest, openBytes, code, formNumber, formsBy, argument, sameForm}
+use Rattle.protocol.specs.Form.{Form, Rest, nothing, openRun, words, layout, longestModeText, fits, readRest, openBytes, code, formNumber, formsBy, argument, sameForm}
 use Rattle.protocol.specs.Properties.{longest}
 use Rattle.protocol.specs.Types.{Selection, always, select, MessageType, types, typeOf}
-use Rattle.protocol.specs.Decode.{Answer, accepted, header, valuesOrRefusal, decodeForm, decodeSelection, decodeType, decodeTyped, decodeWay, decode, openOf, openPart}
+use Rattle.protocol.specs.Decode.{Answer, accepted, header, longestMessage, valuesOrRefusal, decodeForm, decodeSelection, decodeType, decodeTyped, decodeWay, decode, openOf, openPart}
 use Rattle.protocol.specs.Decode as Decode'
 use Rattle.protocol.specs.Answer.{naturalAt, formOf, valuesOf}
 use Rattle.protocol.specs.Encode.{Encoded, encoded, framed, afterFields, encodeForm, encodeSelection, encodeTyped, encodeValues, encode, settledValues}
@@ -26,10 +27,10 @@ use Rattle.protocol.specs.declared.Combinations.{Combinations}
 use Rattle.protocol.specs.declared.Message.{Message}
 use Rattle.protocol.specs.declared.Message.the-variants as Message'
 use Rattle.protocol.specs.declared.Way.{Way}
-use Rattle.protocol.proofs.Tests.{and-left, and-right}
+use Rattle.protocol.proofs.Tests.{which, and-left, and-right}
 use Rattle.protocol.proofs.FormTrip.{was-read, form-written, Shaped, form-read}
 use Rattle.protocol.proofs.Selection.{headed as head, typed, long-enough}
-use Rattle.protocol.proofs.SelectionTrip.{narrow-read, narrow-written, narrow-widths, Fitting, Leads, leads}
+use Rattle.protocol.proofs.SelectionTrip.{Narrow, narrow-read, narrow-written, narrow-widths, Fitting, Leads, leads}
 
 -- ---- what was read is written back
 
@@ -38,40 +39,40 @@ not-refused : (b : Bool) (n p : ℕ) (x : Answer) (f : Form) (vs : List Value) �
 not-refused true n p x f vs e = let z : _≡_ {A = ℕ} 0 1 = cc in absurd (omega arith)
 not-refused false n p x f vs e = (refl, e)
 
-not-else : (b : Bool) (n p : ℕ) (x : Answer) (f : Form) (vs : List Value) → cond b x (Decode'.refused n p) ≡ accepted f vs → (b ≡ true) × (x ≡ accepted f vs)
+pub not-else : (b : Bool) (n p : ℕ) (x : Answer) (f : Form) (vs : List Value) → cond b x (Decode'.refused n p) ≡ accepted f vs → (b ≡ true) × (x ≡ accepted f vs)
 not-else true n p x f vs e = (refl, e)
 not-else false n p x f vs e = let z : _≡_ {A = ℕ} 0 1 = cc in absurd (omega arith)
 
 -- the facts of a header that reading passed
-record Headed (way : Way) (s : List ℕ) (f : Form) (vs : List Value) : Type 0 where
-  size : getD s 0 0 ≡ length s
-  least : 3 ≤ length s
-  hub : getD s 1 0 ≡ 0
-  rest : decodeWay way s ≡ accepted f vs
+pub record Headed (way : Way) (s : List ℕ) (f : Form) (vs : List Value) : Type 0 where
+  pub size : getD s 0 0 ≡ length s
+  pub least : header ≤ length s
+  pub hub : getD s 1 0 ≡ 0
+  pub rest : decodeWay way s ≡ accepted f vs
 
-headed : (way : Way) (s : List ℕ) (f : Form) (vs : List Value) → decode way s ≡ accepted f vs → Headed way s f vs
+pub headed : (way : Way) (s : List ℕ) (f : Form) (vs : List Value) → decode way s ≡ accepted f vs → Headed way s f vs
 unfolding decode
 headed way s f vs e =
-    let n1 = not-refused (eqb (length s) 0) 1 0 _ f vs e in
-    let n2 = not-refused (leb 128 (getD s 0 0)) 2 0 _ f vs (n1 .1) in
-    let n3 = not-else (eqb (getD s 0 0) (length s)) 3 0 _ f vs (n2 .1) in
-    let n4 = not-refused (ltb (length s) 3) 3 0 _ f vs (n3 .1) in
-    let n5 = not-else (eqb (getD s 1 0) 0) 4 1 _ f vs (n4 .1) in
+    let n1 = not-refused (eqb (length s) 0) _ _ _ f vs e in
+    let n2 = not-refused (ltb longestMessage (getD s 0 0)) _ _ _ f vs (n1 .1) in
+    let n3 = not-else (eqb (getD s 0 0) (length s)) _ _ _ f vs (n2 .1) in
+    let n4 = not-refused (ltb (length s) header) _ _ _ f vs (n3 .1) in
+    let n5 = not-else (eqb (getD s 1 0) 0) _ _ _ f vs (n4 .1) in
     record {
       size = eqb-true (getD s 0 0) (length s) (n3 .0);
-      least = ltb-false (length s) 3 (n4 .0);
+      least = ltb-false (length s) header (n4 .0);
       hub = eqb-true (getD s 1 0) 0 (n5 .0);
       rest = n5 .1;
     }
 
 -- the type that was found
-record TypeFound (way : Way) (s : List ℕ) (f : Form) (vs : List Value) : Type 0 where
-  type : MessageType
-  found : typeOf (getD s 2 0) (types way) ≡ some type
-  room : header + type .selectors ≤ length s
-  rest : decodeSelection (type .selection) s ≡ accepted f vs
+pub record TypeFound (way : Way) (s : List ℕ) (f : Form) (vs : List Value) : Type 0 where
+  pub type : MessageType
+  pub found : typeOf (getD s 2 0) (types way) ≡ some type
+  pub room : header + type .selectors ≤ length s
+  pub rest : decodeSelection (type .selection) s ≡ accepted f vs
 
-type-found : (way : Way) (s : List ℕ) (f : Form) (vs : List Value) → decodeWay way s ≡ accepted f vs → TypeFound way s f vs
+pub type-found : (way : Way) (s : List ℕ) (f : Form) (vs : List Value) → decodeWay way s ≡ accepted f vs → TypeFound way s f vs
 unfolding decodeWay decodeType
 type-found way s f vs e = go (typeOf (getD s 2 0) (types way)) refl e
   where
@@ -82,7 +83,7 @@ type-found way s f vs e = go (typeOf (getD s 2 0) (types way)) refl e
         record { type = t; found = k; room = ltb-false (length s) (header + t .selectors) (n .0); rest = n .1 }
 
 -- an accepted form is the one that was tried
-form-is : (g : Form) (s : List ℕ) (f : Form) (vs : List Value) → decodeForm g s ≡ accepted f vs → g ≡ f
+pub form-is : (g : Form) (s : List ℕ) (f : Form) (vs : List Value) → decodeForm g s ≡ accepted f vs → g ≡ f
 unfolding decodeForm
 form-is g s f vs e =
     let x : Fields = andThen (readFields s header (layout g .fields)) (readRest s (header + widths (layout g .fields)) (layout g .rest)) in
@@ -137,13 +138,19 @@ form-same f g e =
     let a : argument f ≡ argument g = eqb-true (argument f) (argument g) (and-right (eqb (formNumber f) (formNumber g)) (eqb (argument f) (argument g)) e) in
     sym (form-back f) ∙ ap (λ (k : ℕ). getD (formsBy (argument f)) k Form.lockStatusRequest) n ∙ ap (λ (k : ℕ). getD (formsBy k) (formNumber g) Form.lockStatusRequest) a ∙ form-back g
 
--- the selectors that reading followed lead writing to the same form
-record Chosen (c k : ℕ) (sel : Selection) (s : List ℕ) (f : Form) (vs : List Value) : Type 0 where
-  form : decodeForm f s ≡ accepted f vs
-  fit : Fitting c k f
-  writes : (last : ℕ) (opens : List ℕ) → encodeSelection sel f last vs opens ≡ encodeForm f vs opens
+-- the values of selectors are their bytes
+pub selectors-read : (k : ℕ) (f : Form) → Narrow k (layout f .fields) → (s : List ℕ) (vs : List Value) → decodeForm f s ≡ accepted f vs → (i : ℕ) → i < k → naturalAt vs i ≡ getD s (header + i) 0
+selectors-read k f narrow s vs e i h =
+    let both = was-read f s vs e .both in
+    ap (λ (l : List Value). naturalAt l i) (both .joined) ∙ narrow-read k (layout f .fields) narrow s header (both .first) (both .second) (both .first-is) i h
 
-chosen : (c k : ℕ) (sel : Selection) → Leads c k sel → (s : List ℕ) (f : Form) (vs : List Value) → decodeSelection sel s ≡ accepted f vs → Chosen c k sel s f vs
+-- the selectors that reading followed lead writing to the same form
+pub record Chosen (c k : ℕ) (sel : Selection) (s : List ℕ) (f : Form) (vs : List Value) : Type 0 where
+  pub form : decodeForm f s ≡ accepted f vs
+  pub fit : Fitting c k f
+  pub writes : (last : ℕ) (opens : List ℕ) → encodeSelection sel f last vs opens ≡ encodeForm f vs opens
+
+pub chosen : (c k : ℕ) (sel : Selection) → Leads c k sel → (s : List ℕ) (f : Form) (vs : List Value) → decodeSelection sel s ≡ accepted f vs → Chosen c k sel s f vs
 chosen c k (always g) lead s f vs e =
     let same : g ≡ f = form-is g s f vs e in
     record {
@@ -155,20 +162,16 @@ chosen c k (select offset rule next) lead s f vs e =
     let v : ℕ = getD s (header + offset) 0 in
     let n = not-else (rule v) 7 (header + offset) (decodeSelection (next v) s) f vs e in
     let deeper = chosen c k (next v) (lead .1 v) s f vs (n .1) in
-    let both = was-read f s vs (deeper .form) .both in
-    let is : naturalAt vs offset ≡ v =
-    ap (λ (l : List Value). naturalAt l offset) (both .joined)
-    ∙ narrow-read k (layout f .fields) (deeper .fit .1) s header (both .first) (both .second) (both .first-is) offset (lead .0)
-    in
+    let is : naturalAt vs offset ≡ v = selectors-read k f (deeper .fit .1) s vs (deeper .form) offset (lead .0) in
     record { form = deeper .form; fit = deeper .fit; writes = λ last opens. rw (is, n .0) (deeper .writes last opens) }
 
-framed-back : (s : List ℕ) (c : ℕ) → 3 ≤ length s → getD s 0 0 ≡ length s → getD s 1 0 ≡ 0 → getD s 2 0 ≡ c → framed c (drop header s) ≡ s
+framed-back : (s : List ℕ) (c : ℕ) → header ≤ length s → getD s 0 0 ≡ length s → getD s 1 0 ≡ 0 → getD s 2 0 ≡ c → framed c (drop header s) ≡ s
 framed-back [] c h a b d = absurd (omega arith)
 framed-back (x ∷ []) c h a b d = absurd (omega arith)
 framed-back (x ∷ y ∷ []) c h a b d = absurd (omega arith)
 framed-back (x ∷ y ∷ z ∷ s) c h a b d =
-    let size : header + length s ≡ x = omega arith in
-    rw (size, ← b, ← d)
+    let size : getD (framed c s) 0 0 ≡ x = omega arith in
+    ap (λ (n : ℕ). n ∷ 0 ∷ c ∷ s) size ∙ ap (λ (n : ℕ). x ∷ n ∷ c ∷ s) (sym b) ∙ ap (λ (n : ℕ). x ∷ y ∷ n ∷ s) (sym d)
 
 pub values-written : (way : Way) (s : List ℕ) → Bytes s → (f : Form) (vs : List Value) → decode way s ≡ accepted f vs → encodeValues way f vs (openPart way s) ≡ encoded s
 unfolding encodeValues openPart
@@ -185,64 +188,71 @@ values-written way s b f vs e =
 
 -- ---- what was written is read back
 
--- no message is longer than 127 bytes
-exact : (end n : ℕ) → end ≤ 127 → eqb n end ≡ true → n ≤ 127
-exact end n h e = omega (arith, eqb-true n end e)
+-- the greatest size that fits, where the fields end at a place
+abbrev greatestSize : Rest → ℕ → ℕ
+greatestSize nothing end = end
+greatestSize (openRun least most) end = end + most
+greatestSize (words most) end = end + 2 * most
 
-ranged : (low high n : ℕ) → high ≤ 127 → (leb low n && leb n high) ≡ true → n ≤ 127
-ranged low high n h e = omega (arith, leb-true n high (and-right (leb low n) (leb n high) e))
+fits-greatest : (r : Rest) (end n : ℕ) → fits r end n ≡ true → n ≤ greatestSize r end
+fits-greatest nothing end n e = omega (arith, eqb-true n end e)
+fits-greatest (openRun least most) end n e = leb-true n (end + most) (and-right (leb (end + least) n) (leb n (end + most)) e)
+fits-greatest (words most) end n e =
+    leb-true n (end + 2 * most)
+    (and-right (leb (end + 2) n) (leb n (end + 2 * most)) (and-left (leb (end + 2) n && leb n (end + 2 * most)) (eqb ((n - end) % 2) 0) e))
 
-longest-le : (property : ℕ) → 5 + longest property ≤ 127
-unfolding longest
-longest-le property = either (eqb property 1)
-  where
-    either : (b : Bool) → 5 + cond b 14 122 ≤ 127
-    either true = omega arith
-    either false = omega arith
+-- which is no more than the longest message
+abbrev Short : Form → Type 0
+Short f = greatestSize (layout f .rest) (header + widths (layout f .fields)) ≤ longestMessage
 
-longest-text-le : (information : ℕ) → 6 + longestModeText information ≤ 127
-unfolding longestModeText
-longest-text-le information = either (eqb information 0)
-  where
-    either : (b : Bool) → 6 + cond b 11 5 ≤ 127
-    either true = omega arith
-    either false = omega arith
+longest-le : (property : ℕ) → Short (Form.propertyText property)
+unfolding longest layout
+longest-le property =
+    ⊎-elim (λ (yes : eqb property 1 ≡ true). rw yes (omega arith)) (λ (no : eqb property 1 ≡ false). rw no (omega arith)) (which (eqb property 1))
 
-short : (f : Form) (n : ℕ) → fits (layout f .rest) (header + widths (layout f .fields)) n ≡ true → n ≤ 127
+longest-text-le : (information : ℕ) → Short (Form.modeText information)
+unfolding longestModeText layout
+longest-text-le information =
+    ⊎-elim (λ (yes : eqb information 0 ≡ true). rw yes (omega arith)) (λ (no : eqb information 0 ≡ false). rw no (omega arith)) (which (eqb information 0))
+
+form-short : (f : Form) → Short f
 unfolding layout
-short Form.propertyCommand n e = exact _ n (omega arith) e
-short (Form.propertyText p) n e = ranged 6 (5 + longest p) n (longest-le p) e
-short (Form.propertyByte p) n e = exact _ n (omega arith) e
-short Form.propertyRssi n e = exact _ n (omega arith) e
-short Form.propertyVersion n e = exact _ n (omega arith) e
-short Form.propertyProtocol n e = exact _ n (omega arith) e
-short Form.propertyAddress n e = exact _ n (omega arith) e
-short Form.hubAction n e = exact _ n (omega arith) e
-short Form.alertCommand n e = exact _ n (omega arith) e
-short Form.alertUpdate n e = exact _ n (omega arith) e
-short Form.detached n e = exact _ n (omega arith) e
-short Form.attached n e = exact _ n (omega arith) e
-short Form.attachedVirtual n e = exact _ n (omega arith) e
-short Form.genericError n e = exact _ n (omega arith) e
-short Form.goIntoBootMode n e = exact _ n (omega arith) e
-short Form.lockMemory n e = exact _ n (omega arith) e
-short Form.lockStatusRequest n e = exact _ n (omega arith) e
-short Form.lockStatus n e = exact _ n (omega arith) e
-short Form.portInformationRequest n e = exact _ n (omega arith) e
-short Form.modeInformationRequest n e = exact _ n (omega arith) e
-short Form.inputFormatSetup n e = exact _ n (omega arith) e
-short Form.portModes n e = exact _ n (omega arith) e
-short Form.portCombinations n e = ranged 7 21 n (omega arith) (and-left (leb 7 n && leb n 21) (eqb ((n - 5) % 2) 0) e)
-short (Form.modeText i) n e = ranged 7 (6 + longestModeText i) n (longest-text-le i) e
-short Form.modeRange n e = exact _ n (omega arith) e
-short Form.modeMapping n e = exact _ n (omega arith) e
-short Form.modeBias n e = exact _ n (omega arith) e
-short Form.modeCapabilities n e = exact _ n (omega arith) e
-short Form.valueFormat n e = exact _ n (omega arith) e
-short Form.portValue n e = ranged 5 127 n (omega arith) e
-short Form.inputFormat n e = exact _ n (omega arith) e
-short Form.virtualDisconnect n e = exact _ n (omega arith) e
-short Form.virtualConnect n e = exact _ n (omega arith) e
+form-short Form.propertyCommand = omega arith
+form-short (Form.propertyText p) = longest-le p
+form-short (Form.propertyByte p) = omega arith
+form-short Form.propertyRssi = omega arith
+form-short Form.propertyVersion = omega arith
+form-short Form.propertyProtocol = omega arith
+form-short Form.propertyAddress = omega arith
+form-short Form.hubAction = omega arith
+form-short Form.alertCommand = omega arith
+form-short Form.alertUpdate = omega arith
+form-short Form.detached = omega arith
+form-short Form.attached = omega arith
+form-short Form.attachedVirtual = omega arith
+form-short Form.genericError = omega arith
+form-short Form.goIntoBootMode = omega arith
+form-short Form.lockMemory = omega arith
+form-short Form.lockStatusRequest = omega arith
+form-short Form.lockStatus = omega arith
+form-short Form.portInformationRequest = omega arith
+form-short Form.modeInformationRequest = omega arith
+form-short Form.inputFormatSetup = omega arith
+form-short Form.portModes = omega arith
+form-short Form.portCombinations = omega arith
+form-short (Form.modeText i) = longest-text-le i
+form-short Form.modeRange = omega arith
+form-short Form.modeMapping = omega arith
+form-short Form.modeBias = omega arith
+form-short Form.modeCapabilities = omega arith
+form-short Form.valueFormat = omega arith
+form-short Form.portValue = omega arith
+form-short Form.inputFormat = omega arith
+form-short Form.virtualDisconnect = omega arith
+form-short Form.virtualConnect = omega arith
+
+short : (f : Form) (n : ℕ) → fits (layout f .rest) (header + widths (layout f .fields)) n ≡ true → n ≤ longestMessage
+short f n e = omega (arith, fits-greatest (layout f .rest) (header + widths (layout f .fields)) n e, form-short f)
 
 not-else-encoded : (b : Bool) (n p : ℕ) (x : Encoded) (t : List ℕ) → cond b x (Encode'.refused n p) ≡ encoded t → (b ≡ true) × (x ≡ encoded t)
 not-else-encoded true n p x t e = (refl, e)
@@ -281,7 +291,7 @@ values-read way f vs opens t shape e = go (typeOf (code f) (types way)) refl e
         let fr = form-read f vs opens t shape (fo .form) in
         let body : List ℕ = fr .body in
         let u : List ℕ = framed (code f) body in
-        let few : length t ≤ 127 = short f (length t) (fr .size) in
+        let few : length t ≤ longestMessage = short f (length t) (fr .size) in
         let size : length t ≡ length u = ap length (fr .bytes) in
         let room : type .selectors ≤ widths fs = narrow-widths (type .selectors) fs (fo .fit .1) in
         let at : (i : ℕ) → i < type .selectors → getD u (header + i) 0 ≡ naturalAt vs i =
@@ -290,7 +300,7 @@ values-read way f vs opens t shape e = go (typeOf (code f) (types way)) refl e
         ∙ narrow-written (type .selectors) fs (fo .fit .1) header vs (take (widths fs) body) (fr .front-is .0) (fr .front-is .1) i h
         in
         let header-good : decode way u ≡ decodeWay way u =
-        head way u (ne-eqb (length u) 0 (λ z. omega arith)) (lt-leb 128 (getD u 0 0) (omega (arith, fr .room))) (eq-eqb (getD u 0 0) (length u) (omega arith)) (le-ltb (length u) 3 (omega arith)) refl
+        head way u (ne-eqb (length u) 0 (λ z. omega arith)) (le-ltb longestMessage (getD u 0 0) (omega (arith, fr .room))) (eq-eqb (getD u 0 0) (length u) (omega arith)) (le-ltb (length u) header (omega arith)) refl
         in
         let typed-as : decodeWay way u ≡ decodeType type u = typed way u (code f) refl ∙ ap (λ (o : Option MessageType). decodeTyped o u) k in
         let whole : decode way u ≡ decodeForm f u =
@@ -380,8 +390,8 @@ refused-only way m opens number place e s b d o =
     let written : encode way m opens ≡ encoded s = ap (encode way m) (sym o) ∙ read-then-written way s b m d in
     let z : _≡_ {A = ℕ} 0 1 = cc in absurd (omega arith)
 
--- what writing gives is no longer than 127 bytes
-pub written-short : (m : Message) (opens t : List ℕ) → encodeForm (formOf m) (valuesOf m) opens ≡ encoded t → length t ≤ 127
+-- what writing gives is no longer than the longest message
+pub written-short : (m : Message) (opens t : List ℕ) → encodeForm (formOf m) (valuesOf m) opens ≡ encoded t → length t ≤ longestMessage
 written-short m opens t e = short (formOf m) (length t) (form-read (formOf m) (valuesOf m) opens t (settling m .0) e .size)
 
 -- what reading accepts is read by the very form

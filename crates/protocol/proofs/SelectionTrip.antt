@@ -118,10 +118,6 @@ either-fits : (c k : ℕ) (b : Bool) (f g : Form) → Fitting c k f → Fitting 
 either-fits c k true f g p q = p
 either-fits c k false f g p q = q
 
-abbrev AllLead : List Row → Type 0
-AllLead [] = Unit {0}
-AllLead (r ∷ rs) = Leads (r .code) (r .type .selectors) (r .type .selection) × AllLead rs
-
 payload-fits : (property : ℕ) → Fitting 1 2 (payload property)
 unfolding payload layout
 payload-fits property =
@@ -190,24 +186,33 @@ virtual-leads : Leads 0x61 1 (virtualPortSetup .selection)
 unfolding virtualPortSetup layout
 virtual-leads = (omega arith, λ sub. either-fits 0x61 1 (eqb sub 0) Form.virtualDisconnect Form.virtualConnect (refl, (refl, tt)) (refl, (refl, tt)))
 
-all-lead : (way : Way) → AllLead (types way)
+-- of every row of a table, by its type byte and its type
+abbrev pub Every : (ℕ → MessageType → Type 0) → List Row → Type 0
+Every P [] = Unit {0}
+Every P (r ∷ rs) = P (r .code) (r .type) × Every P rs
+
+-- and so of the row that is found
+pub found : (P : ℕ → MessageType → Type 0) (rows : List Row) → Every P rows → (c : ℕ) (t : MessageType) → typeOf c rows ≡ some t → P c t
+found P [] all c t e = let z : _≡_ {A = ℕ} 0 1 = cc in absurd (omega arith)
+found P (r ∷ rs) all c t e =
+    ⊎-elim
+    (λ (yes : eqb c (r .code) ≡ true).
+    let is : some (r .type) ≡ some t = rw yes at e in
+    let same : r .type ≡ t = cc in
+    rw (eqb-true c (r .code) yes, ← same) (all .0))
+    (λ (no : eqb c (r .code) ≡ false). found P rs (all .1) c t (rw no at e))
+    (which (eqb c (r .code)))
+
+abbrev TypeLeads : ℕ → MessageType → Type 0
+TypeLeads c t = Leads c (t .selectors) (t .selection)
+
+all-lead : (way : Way) → Every TypeLeads (types way)
 unfolding types hubProperties hubAttachedIo portInformation portModeInformation virtualPortSetup
 all-lead Down =
     (property-leads Down, (action-leads Down, (alert-leads Down, ((refl, tt), ((refl, tt), ((refl, tt), ((refl, tt), ((refl, tt), ((refl, tt), (virtual-leads, tt))))))))))
 all-lead Up =
     (property-leads Up, (action-leads Up, (alert-leads Up, (attached-leads, ((refl, tt), ((refl, tt), (information-leads, (mode-leads, ((refl, tt), ((refl, tt), tt))))))))))
 
-found : (rows : List Row) → AllLead rows → (c : ℕ) (t : MessageType) → typeOf c rows ≡ some t → Leads c (t .selectors) (t .selection)
-found [] all c t e = let z : _≡_ {A = ℕ} 0 1 = cc in absurd (omega arith)
-found (r ∷ rs) all c t e =
-    ⊎-elim
-    (λ (yes : eqb c (r .code) ≡ true).
-    let is : some (r .type) ≡ some t = rw yes at e in
-    let same : r .type ≡ t = cc in
-    rw (eqb-true c (r .code) yes, ← same) (all .0))
-    (λ (no : eqb c (r .code) ≡ false). found rs (all .1) c t (rw no at e))
-    (which (eqb c (r .code)))
-
 -- every type leads to forms of its own type byte
 pub leads : (way : Way) (c : ℕ) (t : MessageType) → typeOf c (types way) ≡ some t → Leads c (t .selectors) (t .selection)
-leads way c t e = found (types way) (all-lead way) c t e
+leads way c t e = found TypeLeads (types way) (all-lead way) c t e

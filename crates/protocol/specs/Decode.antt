@@ -3,7 +3,7 @@ use Prim.Native.Nat.{ℕ, _+_}
 use mathlib.Core.Bool.{cond}
 use mathlib.Core.List.{List, []}
 use mathlib.Core.Option.{Option, none, some}
-use lib.Dec.{eqb, leb, ltb}
+use lib.Dec.{eqb, ltb}
 use lib.ListN.{length, getD}
 use Rattle.protocol.specs.Field.{Value, Fields, outside, values, widths, readFields, andThen}
 use Rattle.protocol.specs.Form.{Form, layout, fits, readRest, openBytes}
@@ -18,6 +18,10 @@ pub data Answer : Type 0 where
 -- length, hub id, type
 abbrev pub header : ℕ
 header = 3
+
+-- the most bytes of a message
+abbrev pub longestMessage : ℕ
+longestMessage = 127
 
 -- refusal 6, not a size for the type and its selectors
 abbrev pub wrongSize : Answer
@@ -56,9 +60,9 @@ decodeWay way s = decodeTyped (typeOf (getD s 2 0) (types way)) s
 unfoldable pub decode : Way → List ℕ → Answer
 decode way s =
     cond (eqb (length s) 0) (refused 1 0)
-    (cond (leb 128 (getD s 0 0)) (refused 2 0)
+    (cond (ltb longestMessage (getD s 0 0)) (refused 2 0)
     (cond (eqb (getD s 0 0) (length s))
-    (cond (ltb (length s) 3) (refused 3 0) (cond (eqb (getD s 1 0) 0) (decodeWay way s) (refused 4 1)))
+    (cond (ltb (length s) header) (refused 3 0) (cond (eqb (getD s 1 0) 0) (decodeWay way s) (refused 4 1)))
     (refused 3 0)))
 
 -- the open bytes of an accepted message, which are that part of it after the fields; none of any other

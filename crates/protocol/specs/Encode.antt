@@ -76,15 +76,15 @@ fieldBytes float (real x) = lowFirst 4 (toBits binary32 x)
 fieldBytes (fixed bytes) v = bytes
 
 -- the next field of a message: its bytes and the values left, or no value that it may hold
-pub data Step : Type 0 where
-  bad : Step
-  good : List ℕ → List Value → Step
+pub data FieldStep : Type 0 where
+  bad : FieldStep
+  good : List ℕ → List Value → FieldStep
 
-abbrev pub taken : Field → List Value → Step
+abbrev pub taken : Field → List Value → FieldStep
 taken f [] = bad
 taken f (v ∷ vs) = cond (holds f v) (good (fieldBytes f v) vs) bad
 
-abbrev pub stepField : Field → List Value → Step
+abbrev pub stepField : Field → List Value → FieldStep
 stepField (number w rule) vs = taken (number w rule) vs
 stepField (highFirst w) vs = taken (highFirst w) vs
 stepField (signed w) vs = taken (signed w) vs

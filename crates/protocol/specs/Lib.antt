@@ -1,4 +1,5 @@
 pub mod Number
+pub mod Overwrite
 pub mod Rule
 pub mod Field
 pub mod Properties

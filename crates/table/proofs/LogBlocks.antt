@@ -16,10 +16,10 @@ use Rattle.rules.proofs.Laws.{step-keeps-sound}
 use Rattle.log.specs.Decimal.{lineText}
 use Rattle.log.specs.Record.{recordSize, entryOf, malformed, messageIn}
 use Rattle.log.specs.Line.{Line, recordLine, cellsAfterRecord, refusalOf, numbersOf}
-use Rattle.log.specs.Laid.{over}
+use Rattle.protocol.specs.Overwrite.{overwrite}
 use Rattle.log.specs.Cutting.{Run, worked, printed}
 use Rattle.log.specs.Block.{lineRoom, mostLines, goesOn, recordsIn, blockRecords}
-use Rattle.log.proofs.Laying.{over-nothing, over-length, over-over}
+use Rattle.protocol.proofs.Overwrite.{overwrite-nothing, overwrite-length, overwrite-then}
 use Rattle.log.proofs.OneMore.{nextRecord, nextLine, cells-next, lines-next, refused-next, text-next, takes-more, takes-none, run-next, printed-one}
 use Rattle.rules.specs.Answer.{Answer, refused, accepted}
 use Rattle.table.specs.BlockAnswer.{Progress, progress, blockAnswer, blockCells, blockText}
@@ -59,7 +59,7 @@ pub record Working (r : Run) (out₀ table out : List ℕ) (taken written count 
   pub through : ℕ
   pub cells : table ≡ worked 128 through r .cells
   pub good : sound table ≡ true
-  pub text : out ≡ over out₀ 0 (printed 128 through r)
+  pub text : out ≡ overwrite out₀ 0 (printed 128 through r)
   pub ends : written ≡ length (printed 128 through r)
   pub room : written ≤ length out₀
   pub lines : count ≡ worked 128 through r .lines
@@ -81,7 +81,7 @@ working-start r out s =
       through = 0;
       cells = refl;
       good = s;
-      text = sym (over-nothing out 0);
+      text = sym (overwrite-nothing out 0);
       ends = refl;
       room = omega arith;
       lines = sym none-lines;
@@ -96,7 +96,7 @@ module _ (r : Run) (out₀ table out : List ℕ) (taken written count bad : ℕ)
   run = worked 128 (k .through) r
 
   pub same-size : length out ≡ length out₀
-  same-size = ap length (k .text) ∙ over-length out₀ 0 (printed 128 (k .through) r) (omega (arith, k .ends, k .room))
+  same-size = ap length (k .text) ∙ overwrite-length out₀ 0 (printed 128 (k .through) r) (omega (arith, k .ends, k .room))
 
   -- what is left of the input
   rest-is : run .rest ≡ drop taken (r .rest)
@@ -157,9 +157,9 @@ module _ (r : Run) (out₀ table out : List ℕ) (taken written count bad : ℕ)
           good = g;
           text =
               q .text
-              ∙ (λ i. over (k .text i) (at-is i) line)
-              ∙ over-over out₀ 0 (printed 128 d r) line (omega (arith, k .ends, k .room))
-              ∙ ap (over out₀ 0) (sym whole-text);
+              ∙ (λ i. overwrite (k .text i) (at-is i) line)
+              ∙ overwrite-then out₀ 0 (printed 128 d r) line (omega (arith, k .ends, k .room))
+              ∙ ap (overwrite out₀ 0) (sym whole-text);
           ends = omega (arith, q .ends, k .ends, whole-length);
           room = omega (arith, q .most, room-there, same-size);
           lines = omega (arith, k .lines, lines-next 128 r d);
@@ -179,10 +179,10 @@ module _ (r : Run) (out₀ table out : List ℕ) (taken written count bad : ℕ)
   total = blockRecords 128 r (length out₀)
 
   pub finished : (leb (recordSize 128) (length (r .rest) - taken) && leb lineRoom (length out - written) && ltb count mostLines && ltb bad mostLines) ≡ false
-      → (record { taken = taken; written = written; lines = count; refused = bad } ≡ progress 128 r total) × (table ≡ worked 128 total r .cells) × (out ≡ over out₀ 0 (printed 128 total r)) × ((taken ≤ length (r .rest)) × (written ≤ length out₀))
+      → (record { taken = taken; written = written; lines = count; refused = bad } ≡ progress 128 r total) × (table ≡ worked 128 total r .cells) × (out ≡ overwrite out₀ 0 (printed 128 total r)) × ((taken ≤ length (r .rest)) × (written ≤ length out₀))
   finished stops =
       let is : k .through ≡ total = all-done stops in
-      ((λ i. record { taken = k .took i; written = k .ends i; lines = k .lines i; refused = k .refused i }) ∙ ap (progress 128 r) is, k .cells ∙ ap (λ (n : ℕ). worked 128 n r .cells) is, k .text ∙ ap (λ (n : ℕ). over out₀ 0 (printed 128 n r)) is, (k .there, k .room))
+      ((λ i. record { taken = k .took i; written = k .ends i; lines = k .lines i; refused = k .refused i }) ∙ ap (progress 128 r) is, k .cells ∙ ap (λ (n : ℕ). worked 128 n r .cells) is, k .text ∙ ap (λ (n : ℕ). overwrite out₀ 0 (printed 128 n r)) is, (k .there, k .room))
 
 -- every record keeps a sound table sound
 pub record-keeps-sound : (cells s : List ℕ) → ((n : ℕ) → getD s n 0 < 256) → sound cells ≡ true → sound (cellsAfterRecord 128 cells s) ≡ true
@@ -218,7 +218,7 @@ module _ (r : Run) (out : List ℕ) where
   abbrev taken-there : ℕ
   taken-there = blockRecords 128 r (length out)
 
-  pub sound-block : sound (r .cells) ≡ true → (blockAnswer 128 r (length out) ≡ accepted (progress 128 r taken-there)) × (blockCells 128 r (length out) ≡ worked 128 taken-there r .cells) × (blockText 128 r out ≡ over out 0 (printed 128 taken-there r))
+  pub sound-block : sound (r .cells) ≡ true → (blockAnswer 128 r (length out) ≡ accepted (progress 128 r taken-there)) × (blockCells 128 r (length out) ≡ worked 128 taken-there r .cells) × (blockText 128 r out ≡ overwrite out 0 (printed 128 taken-there r))
   unfolding blockAnswer blockCells blockText
   sound-block s = (rw s, rw s, rw s)
 

@@ -7,7 +7,7 @@ use lib.ListN.{length}
 use Rattle.rules.specs.Answer.{Answer, refused, accepted}
 use Rattle.rules.specs.Cells.{sound}
 use Rattle.log.specs.Record.{recordSize}
-use Rattle.log.specs.Laid.{over}
+use Rattle.protocol.specs.Overwrite.{overwrite}
 use Rattle.log.specs.Cutting.{Run, worked, printed}
 use Rattle.log.specs.Block.{blockRecords}
 use Rattle.table.specs.declared.block.Block.{Block}
@@ -43,4 +43,4 @@ unfoldable pub blockCells : ℕ → Run → ℕ → List ℕ
 blockCells part r room = cond (sound (r .cells)) (worked part (blockRecords part r room) r .cells) (r .cells)
 
 unfoldable pub blockText : ℕ → Run → List ℕ → List ℕ
-blockText part r out = cond (sound (r .cells)) (over out 0 (printed part (blockRecords part r (length out)) r)) out
+blockText part r out = cond (sound (r .cells)) (overwrite out 0 (printed part (blockRecords part r (length out)) r)) out

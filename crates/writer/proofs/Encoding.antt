@@ -14,6 +14,7 @@ use Rattle.protocol.specs.Rule.{any, upTo, between}
 use Rattle.protocol.specs.Field.{Field, number, highFirst, signed, float, fixed, Value, natural, integer, real, width, widths}
 use Rattle.protocol.specs.Form
 use Rattle.protocol.specs.Form.{Form, informationType, alertStatus, bootString, lockString, Rest, nothing, openRun, words, layout, code}
+use Rattle.protocol.specs.Decode.{header}
 use Rattle.protocol.specs.Answer.{formOf, valuesOf}
 use Rattle.protocol.specs.Encode.{Encoded, encoded, refused, good, bad, taken, holds, fieldBytes, lowFirst, Written, outside, wrote, before, writeFields, restFits, thenRest, framed, closed, afterField, afterFields, frontValue, frontValues, encodeForm}
 use Rattle.writer.specs.Writing.{limited, writtenOf, lentAfter}
@@ -22,7 +23,7 @@ use Rattle.protocol.specs.declared.Combinations.{Combinations}
 use Rattle.protocol.specs.declared.Message.{Message}
 use Rattle.protocol.specs.declared.Message.the-variants as Message'
 use Rattle.writer.proofs.Ranges.{wide}
-use Rattle.writer.specs.Slot.{slotFits, slotBytes, slotFields, slotValues, Slotted, atMost, wordFields, wordValues, slotsBytes, firstOutside, messageBytes}
+use Rattle.writer.specs.Slot.{slotFits, slotBytes, slotFields, slotValues, Slotted, atMost, wordFields, wordValues, slotsBytes, firstOutside, typePlace, fromTypeByte, messageBytes}
 use Rattle.writer.specs.Open.{openFits}
 use Rattle.writer.specs.declared.slot.Slot.{Slot}
 use Rattle.writer.specs.declared.slot.Slot.the-variants as Slot'
@@ -94,7 +95,7 @@ as-fields at (Slot'.LockString ∷ ss) = ap (before lockString) (as-fields (at +
 -- the bytes of slots from the type byte on, with the open bytes and the front of the header
 abbrev pub finish : List ℕ → Written → Encoded
 finish opens (outside at) = refused 7 at
-finish opens (wrote bs vs) = encoded ((2 + length (bs ++ opens)) ∷ 0 ∷ (bs ++ opens))
+finish opens (wrote bs vs) = encoded (fromTypeByte (bs ++ opens))
 
 -- forms without words
 abbrev Plain : Rest → Type 0
@@ -143,37 +144,37 @@ front-after (f ∷ fs) vs =
 closing : (f : Form) (opens : List ℕ) (w : Written) → closed f (withOpen opens w) ≡ finish opens (before (code f ∷ []) w)
 closing f opens (outside at) = refl
 closing f opens (wrote bs vs) =
-    let size : 3 + length (bs ++ opens) ≡ 2 + suc (length (bs ++ opens)) = omega arith in
+    let size : header + length (bs ++ opens) ≡ typePlace + length (code f ∷ (bs ++ opens)) = omega arith in
     ap (λ (n : ℕ). encoded (n ∷ 0 ∷ code f ∷ (bs ++ opens))) size
 
-type-byte : (c : ℕ) (fs : List Field) (vs : List Value) → ltb c 256 ≡ true → c % 256 ≡ c → before (c ∷ []) (writeFields 3 fs vs) ≡ writeFields 2 (number 1 any ∷ fs) (natural c ∷ vs)
+type-byte : (c : ℕ) (fs : List Field) (vs : List Value) → ltb c 256 ≡ true → c % 256 ≡ c → before (c ∷ []) (writeFields header fs vs) ≡ writeFields typePlace (number 1 any ∷ fs) (natural c ∷ vs)
 unfolding lowFirst
 type-byte c fs vs small same =
     sym
-    (stepped (ltb c 256 && true) (lowFirst 1 c) (number 1 any) 2 fs vs (writeFields 3 fs vs) refl
-    ∙ ap (λ (b : Bool). cond (b && true) (before (lowFirst 1 c) (writeFields 3 fs vs)) (outside 2)) small
-    ∙ ap (λ (n : ℕ). before (n ∷ []) (writeFields 3 fs vs)) same)
+    (stepped (ltb c 256 && true) (lowFirst 1 c) (number 1 any) typePlace fs vs (writeFields header fs vs) refl
+    ∙ ap (λ (b : Bool). cond (b && true) (before (lowFirst 1 c) (writeFields header fs vs)) (outside typePlace)) small
+    ∙ ap (λ (n : ℕ). before (n ∷ []) (writeFields header fs vs)) same)
 
 plain-slots : (m : Message) (opens : List ℕ) (slots : List Slot) → Plain (layout (formOf m) .rest) → ltb (code (formOf m)) 256 ≡ true → code (formOf m) % 256 ≡ code (formOf m) → Slotted m slots
     → restFits (layout (formOf m) .rest) (afterFields (layout (formOf m) .fields) (valuesOf m)) (length opens) ≡ true
-    → encodeForm (formOf m) (valuesOf m) opens ≡ finish opens (rowWritten 2 slots)
+    → encodeForm (formOf m) (valuesOf m) opens ≡ finish opens (rowWritten typePlace slots)
 unfolding encodeForm
 plain-slots m opens slots plain small same x right =
     let f : Form = formOf m in
     let vs : List Value = valuesOf m in
     let fs : List Field = layout f .fields in
     let r : Rest = layout f .rest in
-    let w : Written = writeFields 3 fs vs in
+    let w : Written = writeFields header fs vs in
     let fields : slotFields slots ≡ number 1 any ∷ fs = x .fields ∙ ap (λ (l : List Field). number 1 any ∷ l) (plain-fields r plain fs (afterFields fs vs)) in
     let values : slotValues slots ≡ natural (code f) ∷ vs =
     x .values ∙ ap (λ (l : List Value). natural (code f) ∷ (frontValues fs vs ++ l)) (plain-values r plain (afterFields fs vs)) ∙ ap (λ (l : List Value). natural (code f) ∷ l) (front-after fs vs)
     in
     rw right
-    (ap (closed f) (plain-written r plain (afterFields fs vs) opens right (3 + widths fs) w) ∙ closing f opens w
+    (ap (closed f) (plain-written r plain (afterFields fs vs) opens right (header + widths fs) w) ∙ closing f opens w
     ∙ ap (finish opens) (type-byte (code f) fs vs small same)
-    ∙ ap (λ (gs : List Field). finish opens (writeFields 2 gs (natural (code f) ∷ vs))) (sym fields)
-    ∙ ap (λ (us : List Value). finish opens (writeFields 2 (slotFields slots) us)) (sym values)
-    ∙ ap (finish opens) (as-fields 2 slots))
+    ∙ ap (λ (gs : List Field). finish opens (writeFields typePlace gs (natural (code f) ∷ vs))) (sym fields)
+    ∙ ap (λ (us : List Value). finish opens (writeFields typePlace (slotFields slots) us)) (sym values)
+    ∙ ap (finish opens) (as-fields typePlace slots))
 
 -- ---- the list of a 43
 
@@ -192,6 +193,10 @@ bytes-before bs (outside a) (wrote cs vs) e = let z : _≡_ {A = ℕ} 0 1 = cc i
 bytes-before bs (wrote cs vs) (outside b) e = let z : _≡_ {A = ℕ} 0 1 = cc in absurd (omega arith)
 bytes-before bs (wrote cs vs) (wrote ds us) e = let same : cs ≡ ds = cc in ap (λ (l : List ℕ). wrote (bs ++ l) []) same
 
+-- its type byte
+abbrev listCode : ℕ
+listCode = code Form.portCombinations
+
 abbrev word : Field
 word = number 2 any
 
@@ -206,20 +211,20 @@ as-many (suc n) at (e ∷ es) = go (holds word e) (as-many n (at + 2) es)
     go true k = bytes-before (fieldBytes word e) (writeFields (at + 2) (replicate n word) es) (writeFields (at + 2) (replicate n word) (take n es)) k
     go false k = refl
 
-joined : (a : ℕ) (v w : Written) → bytesOnly v ≡ bytesOnly w → closed Form.portCombinations (before (a ∷ 2 ∷ []) v) ≡ finish [] (before (67 ∷ []) (before (a ∷ []) (before (2 ∷ []) w)))
+joined : (a : ℕ) (v w : Written) → bytesOnly v ≡ bytesOnly w → closed Form.portCombinations (before (a ∷ 2 ∷ []) v) ≡ finish [] (before (listCode ∷ []) (before (a ∷ []) (before (2 ∷ []) w)))
 joined a (outside i) (outside j) e = let same : i ≡ j = cc in ap (refused 7) same
 joined a (outside i) (wrote cs vs) e = let z : _≡_ {A = ℕ} 0 1 = cc in absurd (omega arith)
 joined a (wrote cs vs) (outside j) e = let z : _≡_ {A = ℕ} 0 1 = cc in absurd (omega arith)
 joined a (wrote cs vs) (wrote ds us) e =
     let same : cs ≡ ds = cc in
     let whole : ds ≡ ds ++ [] = sym (append-nil ds) in
-    let size : 3 + length (a ∷ 2 ∷ ds) ≡ 2 + length (67 ∷ a ∷ 2 ∷ ds) = omega arith in
-    ap (λ (l : List ℕ). encoded (framed 67 (a ∷ 2 ∷ l))) same ∙ ap (λ (n : ℕ). encoded (n ∷ 0 ∷ 67 ∷ a ∷ 2 ∷ ds)) size
-    ∙ ap (λ (l : List ℕ). encoded ((2 + length (67 ∷ a ∷ 2 ∷ l)) ∷ 0 ∷ 67 ∷ a ∷ 2 ∷ l)) whole
+    let size : header + length (a ∷ 2 ∷ ds) ≡ typePlace + length (listCode ∷ a ∷ 2 ∷ ds) = omega arith in
+    ap (λ (l : List ℕ). encoded (framed listCode (a ∷ 2 ∷ l))) same ∙ ap (λ (n : ℕ). encoded (n ∷ 0 ∷ listCode ∷ a ∷ 2 ∷ ds)) size
+    ∙ ap (λ (l : List ℕ). encoded (fromTypeByte (listCode ∷ a ∷ 2 ∷ l))) whole
 
 combined-slots : (p : ℕ) (k : Combinations) (opens : List ℕ) (slots : List Slot) → Slotted (Message'.PortCombinations p k) slots
     → restFits (layout Form.portCombinations .rest) (afterFields (layout Form.portCombinations .fields) (valuesOf (Message'.PortCombinations p k))) (length opens) ≡ true
-    → encodeForm Form.portCombinations (valuesOf (Message'.PortCombinations p k)) opens ≡ finish opens (rowWritten 2 slots)
+    → encodeForm Form.portCombinations (valuesOf (Message'.PortCombinations p k)) opens ≡ finish opens (rowWritten typePlace slots)
 unfolding encodeForm layout lowFirst
 combined-slots p k opens slots x right =
     let count : ℕ = k .count in
@@ -230,25 +235,25 @@ combined-slots p k opens slots x right =
     let fields : slotFields slots ≡ number 1 any ∷ number 1 any ∷ number 1 any ∷ replicate count word =
     x .fields ∙ ap (λ (n : ℕ). number 1 any ∷ number 1 any ∷ number 1 any ∷ replicate n word) all
     in
-    let values : slotValues slots ≡ natural 67 ∷ natural p ∷ natural 2 ∷ take count es =
-    x .values ∙ ap (λ (n : ℕ). natural 67 ∷ natural p ∷ natural 2 ∷ take n es) all
+    let values : slotValues slots ≡ natural listCode ∷ natural p ∷ natural 2 ∷ take count es =
+    x .values ∙ ap (λ (n : ℕ). natural listCode ∷ natural p ∷ natural 2 ∷ take n es) all
     in
     rw (right, none)
-    (go (ltb p 256 && true) count es (as-many count 5 es)
-    ∙ ap (λ (gs : List Field). finish [] (writeFields 2 gs (natural 67 ∷ natural p ∷ natural 2 ∷ take count es))) (sym fields)
-    ∙ ap (λ (us : List Value). finish [] (writeFields 2 (slotFields slots) us)) (sym values)
-    ∙ ap (finish []) (as-fields 2 slots))
+    (go (ltb p 256 && true) count es (as-many count (header + 2) es)
+    ∙ ap (λ (gs : List Field). finish [] (writeFields typePlace gs (natural listCode ∷ natural p ∷ natural 2 ∷ take count es))) (sym fields)
+    ∙ ap (λ (us : List Value). finish [] (writeFields typePlace (slotFields slots) us)) (sym values)
+    ∙ ap (finish []) (as-fields typePlace slots))
   where
-    go : (b : Bool) (count : ℕ) (es : List Value) → bytesOnly (writeFields 5 (replicate count word) es) ≡ bytesOnly (writeFields 5 (replicate count word) (take count es))
-        → closed Form.portCombinations (thenRest 5 (words 8) [] (elim (cond b (good (p % 256 ∷ []) (natural 2 ∷ natural count ∷ es)) bad) [ bad ↦ outside 3 | good cs ws ↦ before cs (writeFields 4 (number 1 any ∷ []) ws) ]))
-        ≡ finish [] (before (67 ∷ []) (elim (cond b (good (p % 256 ∷ []) (natural 2 ∷ take count es)) bad) [ bad ↦ outside 3 | good cs ws ↦ before cs (writeFields 4 (number 1 any ∷ replicate count word) ws) ]))
-    go true count es e = joined (p % 256) (writeFields 5 (replicate count word) es) (writeFields 5 (replicate count word) (take count es)) e
+    go : (b : Bool) (count : ℕ) (es : List Value) → bytesOnly (writeFields (header + 2) (replicate count word) es) ≡ bytesOnly (writeFields (header + 2) (replicate count word) (take count es))
+        → closed Form.portCombinations (thenRest (header + 2) (words 8) [] (elim (cond b (good (p % 256 ∷ []) (natural 2 ∷ natural count ∷ es)) bad) [ bad ↦ outside header | good cs ws ↦ before cs (writeFields (header + 1) (number 1 any ∷ []) ws) ]))
+        ≡ finish [] (before (listCode ∷ []) (elim (cond b (good (p % 256 ∷ []) (natural 2 ∷ take count es)) bad) [ bad ↦ outside header | good cs ws ↦ before cs (writeFields (header + 1) (number 1 any ∷ replicate count word) ws) ]))
+    go true count es e = joined (p % 256) (writeFields (header + 2) (replicate count word) es) (writeFields (header + 2) (replicate count word) (take count es)) e
     go false count es e = refl
 
 -- a message is written as its slots
 pub by-slots : (m : Message) (opens : List ℕ) (slots : List Slot) → Slotted m slots
     → restFits (layout (formOf m) .rest) (afterFields (layout (formOf m) .fields) (valuesOf m)) (length opens) ≡ true
-    → encodeForm (formOf m) (valuesOf m) opens ≡ finish opens (rowWritten 2 slots)
+    → encodeForm (formOf m) (valuesOf m) opens ≡ finish opens (rowWritten typePlace slots)
 unfolding layout
 by-slots (Message'.PropertyCommand p o) opens slots x right = plain-slots (Message'.PropertyCommand p o) opens slots tt refl refl x right
 by-slots (Message'.PropertyText p o) opens slots x right = plain-slots (Message'.PropertyText p o) opens slots tt refl refl x right
@@ -290,15 +295,15 @@ pub wrong-size : (m : Message) (opens : List ℕ) → openFits m (length opens) 
 unfolding encodeForm openFits
 wrong-size m opens e = rw e
 
-pub a-field-outside : (m : Message) (opens : List ℕ) (slots : List Slot) → Slotted m slots → openFits m (length opens) ≡ true → (firstOutside 2 slots ≡ 0 → ⊥)
-    → encodeForm (formOf m) (valuesOf m) opens ≡ refused 7 (firstOutside 2 slots)
+pub a-field-outside : (m : Message) (opens : List ℕ) (slots : List Slot) → Slotted m slots → openFits m (length opens) ≡ true → (firstOutside typePlace slots ≡ 0 → ⊥)
+    → encodeForm (formOf m) (valuesOf m) opens ≡ refused 7 (firstOutside typePlace slots)
 unfolding openFits
-a-field-outside m opens slots x right n = by-slots m opens slots x right ∙ ap (finish opens) (not-written 2 slots n)
+a-field-outside m opens slots x right n = by-slots m opens slots x right ∙ ap (finish opens) (not-written typePlace slots n)
 
-pub all-inside : (m : Message) (opens : List ℕ) (slots : List Slot) → Slotted m slots → openFits m (length opens) ≡ true → firstOutside 2 slots ≡ 0
+pub all-inside : (m : Message) (opens : List ℕ) (slots : List Slot) → Slotted m slots → openFits m (length opens) ≡ true → firstOutside typePlace slots ≡ 0
     → encodeForm (formOf m) (valuesOf m) opens ≡ encoded (messageBytes slots opens)
 unfolding openFits
-all-inside m opens slots x right e = by-slots m opens slots x right ∙ ap (finish opens) (all-written 2 slots (omega arith) e)
+all-inside m opens slots x right e = by-slots m opens slots x right ∙ ap (finish opens) (all-written typePlace slots (omega arith) e)
 
 pub refused-answer : (x : Encoded) (n place room : ℕ) (out : List ℕ) → x ≡ refused n place
     → (Written'.Refused n place ≡ writtenOf (limited room x)) × (out ≡ lentAfter (limited room x) out)

@@ -1,6 +1,6 @@
 pub mod Choices
 pub mod Encoding
-pub mod Over
+pub mod Copying
 pub mod Ranges
 pub mod Rows
 pub mod Walk

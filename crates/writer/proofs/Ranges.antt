@@ -21,7 +21,8 @@ use Rattle.protocol.specs.Form.{informationType, alertStatus}
 use Rattle.protocol.specs.Encode.{lowFirst, inRange, ofInteger}
 use Rattle.writer.proofs.slot.Slot.{the-type}
 use Rattle.writer.proofs.slot.Slot.Laws.{the-laws}
-use Rattle.writer.specs.Slot.{slotFits, slotBytes, over}
+use Rattle.protocol.specs.Overwrite.{overwrite}
+use Rattle.writer.specs.Slot.{slotFits, slotBytes}
 use Rattle.writer.specs.declared.slot.Slot.{Slot}
 use Rattle.writer.specs.declared.slot.Slot.the-variants as Slot'
 
@@ -112,8 +113,8 @@ wide Slot'.LockString = refl
 pub room-at : (s t : Slot) (at n : ℕ) → s ≡ t → at + length (slotBytes s) ≤ n → at + slotWidth t ≤ n
 room-at s t at n e h = rw (sym (wide s ∙ ap slotWidth e)) h
 
-pub over-at : (s t : Slot) (d : List ℕ) (at : ℕ) (l : List ℕ) → s ≡ t → l ≡ over d at (slotBytes t) → l ≡ over d at (slotBytes s)
-over-at s t d at l e h = h ∙ ap (λ (u : Slot). over d at (slotBytes u)) (sym e)
+pub overwrite-at : (s t : Slot) (d : List ℕ) (at : ℕ) (l : List ℕ) → s ≡ t → l ≡ overwrite d at (slotBytes t) → l ≡ overwrite d at (slotBytes s)
+overwrite-at s t d at l e h = h ∙ ap (λ (u : Slot). overwrite d at (slotBytes u)) (sym e)
 
 pub finite-at : (s t : Slot) (vs : List Val) → Is (row the-type) s vs → slotFits s ≡ true → s ≡ t → slotTest t ≡ true
 finite-at s t vs g h e = sym (ap slotTest e) ∙ sym (tested s vs g) ∙ h

@@ -9,8 +9,9 @@ use mathlib.Core.Logic.{⊎-elim}
 use lib.ListN.{length, getD, take, drop, length-append, take-append-drop}
 use lib.Seq.{drop-cons, take-suc}
 use Rattle.protocol.proofs.Tests.{which}
-use Rattle.writer.proofs.Over.{over-over, over-length}
-use Rattle.writer.specs.Slot.{slotFits, slotBytes, slotsBytes, firstOutside, over}
+use Rattle.protocol.proofs.Overwrite.{overwrite-then, overwrite-length}
+use Rattle.protocol.specs.Overwrite.{overwrite}
+use Rattle.writer.specs.Slot.{slotFits, slotBytes, slotsBytes, firstOutside, typePlace}
 use Rattle.writer.specs.declared.slot.Slot.{Slot}
 
 module _ (slots : List Slot) (d : Slot) where
@@ -47,25 +48,25 @@ bytes-append (x ∷ xs) ys = ap (λ (l : List ℕ). slotBytes x ++ l) (bytes-app
 pub bytes-split : (i : ℕ) (slots : List Slot) → slotsBytes slots ≡ slotsBytes (take i slots) ++ slotsBytes (drop i slots)
 bytes-split i slots = ap slotsBytes (sym (take-append-drop i slots)) ∙ bytes-append (take i slots) (drop i slots)
 
--- so many slots are laid over a list from its third byte on
+-- a list is overwritten with so many slots, from the place of the type byte on
 pub record Put (out₀ : List ℕ) (slots : List Slot) (out : List ℕ) (at i : ℕ) : Type 0 where
   pub few : i ≤ 11
-  pub narrow : at ≤ 2 + 9 * i
-  pub place : at ≡ 2 + length (slotsBytes (take i slots))
-  pub done : out ≡ over out₀ 2 (slotsBytes (take i slots))
+  pub narrow : at ≤ typePlace + 9 * i
+  pub place : at ≡ typePlace + length (slotsBytes (take i slots))
+  pub done : out ≡ overwrite out₀ typePlace (slotsBytes (take i slots))
   pub rest : firstOutside at (drop i slots) ≡ 0
 
-pub put-room : (out₀ : List ℕ) (slots : List Slot) (out : List ℕ) (at i : ℕ) → Put out₀ slots out at i → 2 + length (slotsBytes slots) ≤ length out₀ → at + length (slotsBytes (drop i slots)) ≤ length out₀
+pub put-room : (out₀ : List ℕ) (slots : List Slot) (out : List ℕ) (at i : ℕ) → Put out₀ slots out at i → typePlace + length (slotsBytes slots) ≤ length out₀ → at + length (slotsBytes (drop i slots)) ≤ length out₀
 put-room out₀ slots out at i p h =
     let both : length (slotsBytes slots) ≡ length (slotsBytes (take i slots)) + length (slotsBytes (drop i slots)) =
     ap length (bytes-split i slots) ∙ length-append (slotsBytes (take i slots)) (slotsBytes (drop i slots))
     in
     omega (arith, p .place)
 
-pub put-length : (out₀ : List ℕ) (slots : List Slot) (out : List ℕ) (at i : ℕ) → Put out₀ slots out at i → 2 + length (slotsBytes slots) ≤ length out₀ → length out ≡ length out₀
-put-length out₀ slots out at i p h = ap length (p .done) ∙ over-length out₀ 2 (slotsBytes (take i slots)) (omega (arith, put-room out₀ slots out at i p h, p .place))
+pub put-length : (out₀ : List ℕ) (slots : List Slot) (out : List ℕ) (at i : ℕ) → Put out₀ slots out at i → typePlace + length (slotsBytes slots) ≤ length out₀ → length out ≡ length out₀
+put-length out₀ slots out at i p h = ap length (p .done) ∙ overwrite-length out₀ typePlace (slotsBytes (take i slots)) (omega (arith, put-room out₀ slots out at i p h, p .place))
 
-pub put-here : (out₀ : List ℕ) (slots : List Slot) (d : Slot) (out : List ℕ) (at i : ℕ) → Put out₀ slots out at i → i < 11 → length slots ≡ 11 → 2 + length (slotsBytes slots) ≤ length out₀
+pub put-here : (out₀ : List ℕ) (slots : List Slot) (d : Slot) (out : List ℕ) (at i : ℕ) → Put out₀ slots out at i → i < 11 → length slots ≡ 11 → typePlace + length (slotsBytes slots) ≤ length out₀
     → (at + length (slotBytes (getD slots i d)) ≤ length out) × (slotFits (getD slots i d) ≡ true)
 put-here out₀ slots d out at i p h eleven room =
     let both : length (slotsBytes (drop i slots)) ≡ length (slotBytes (getD slots i d)) + length (slotsBytes (drop (i + 1) slots)) =
@@ -74,7 +75,7 @@ put-here out₀ slots d out at i p h eleven room =
     (omega (arith, put-room out₀ slots out at i p room, put-length out₀ slots out at i p room), holds-here slots d at i (omega (arith, p .place)) (omega arith) (p .rest))
 
 pub put-one : (out₀ : List ℕ) (slots : List Slot) (d : Slot) (out : List ℕ) (at i : ℕ) (next : List ℕ) → Put out₀ slots out at i → i < 11 → length slots ≡ 11 → length (slotBytes (getD slots i d)) ≤ 9
-    → 2 + length (slotsBytes slots) ≤ length out₀ → next ≡ over out at (slotBytes (getD slots i d))
+    → typePlace + length (slotsBytes slots) ≤ length out₀ → next ≡ overwrite out at (slotBytes (getD slots i d))
     → Put out₀ slots next (at + length (slotBytes (getD slots i d))) (i + 1)
 put-one out₀ slots d out at i next p h eleven nine room e =
     let s : Slot = getD slots i d in
@@ -84,13 +85,13 @@ put-one out₀ slots d out at i next p h eleven nine room e =
     ap slotsBytes more ∙ bytes-append (take i slots) (s ∷ []) ∙ ap (λ (l : List ℕ). before ++ l) (append-nil (slotBytes s))
     in
     let size : length (slotsBytes (take (i + 1) slots)) ≡ length before + length (slotBytes s) = ap length bytes ∙ length-append before (slotBytes s) in
-    let fits : 2 + length before ≤ length out₀ = omega (arith, put-room out₀ slots out at i p room, p .place) in
+    let fits : typePlace + length before ≤ length out₀ = omega (arith, put-room out₀ slots out at i p room, p .place) in
     record {
       few = omega arith;
       narrow = omega (arith, p .narrow);
       place = omega (arith, p .place);
       done =
-          e ∙ ap (λ (l : List ℕ). over l at (slotBytes s)) (p .done) ∙ ap (λ (k : ℕ). over (over out₀ 2 before) k (slotBytes s)) (p .place)
-          ∙ over-over out₀ 2 before (slotBytes s) fits ∙ ap (over out₀ 2) (sym bytes);
+          e ∙ ap (λ (l : List ℕ). overwrite l at (slotBytes s)) (p .done) ∙ ap (λ (k : ℕ). overwrite (overwrite out₀ typePlace before) k (slotBytes s)) (p .place)
+          ∙ overwrite-then out₀ typePlace before (slotBytes s) fits ∙ ap (overwrite out₀ typePlace) (sym bytes);
       rest = sym (inside-here slots d at i (omega arith) (holds-here slots d at i (omega (arith, p .place)) (omega arith) (p .rest))) ∙ p .rest;
     }

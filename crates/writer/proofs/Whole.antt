@@ -8,17 +8,18 @@ use borrow.Author.Tests.{lt-ltb, le-ltb}
 use lib.ListN.{length, set, drop, length-append, length-set}
 use Rattle.protocol.specs.Encode.{encoded, refused}
 use Rattle.writer.specs.Writing.{limited}
-use Rattle.writer.proofs.Over.{over-over}
-use Rattle.writer.specs.Slot.{slotsBytes, messageBytes, over}
+use Rattle.protocol.proofs.Overwrite.{overwrite-then}
+use Rattle.protocol.specs.Overwrite.{overwrite}
+use Rattle.writer.specs.Slot.{slotsBytes, typePlace, messageBytes}
 use Rattle.writer.specs.declared.slot.Slot.{Slot}
 
 -- at the front
-front : (out bytes : List ℕ) → over out 0 bytes ≡ bytes ++ drop (length bytes) out
-unfolding over
+front : (out bytes : List ℕ) → overwrite out 0 bytes ≡ bytes ++ drop (length bytes) out
+unfolding overwrite
 front out bytes = ap (λ (n : ℕ). bytes ++ drop n out) (zero-add (length bytes))
 
-two : (out : List ℕ) (a b : ℕ) → 2 ≤ length out → set (set out 0 a) 1 b ≡ over out 0 (a ∷ b ∷ [])
-unfolding over
+two : (out : List ℕ) (a b : ℕ) → 2 ≤ length out → set (set out 0 a) 1 b ≡ overwrite out 0 (a ∷ b ∷ [])
+unfolding overwrite
 two [] a b h = absurd (omega arith)
 two (x ∷ []) a b h = absurd (omega arith)
 two (x ∷ y ∷ out) a b h = refl
@@ -30,28 +31,28 @@ module _ (slots : List Slot) (opens : List ℕ) (w : ℕ) (is : w ≡ length (sl
   abbrev whole : List ℕ
   whole = messageBytes slots opens
 
-  pub size-is : 2 + w + length opens ≡ length whole
+  pub size-is : typePlace + w + length opens ≡ length whole
   size-is = omega (arith, length-append (slotsBytes slots) opens)
 
-  pub too-short : (room : ℕ) → room < 2 + w + length opens → limited room (encoded whole) ≡ refused 8 0
+  pub too-short : (room : ℕ) → room < typePlace + w + length opens → limited room (encoded whole) ≡ refused 8 0
   unfolding limited
   too-short room h = rw (lt-ltb room (length whole) (omega (arith, size-is)))
 
-  pub long-enough : (room : ℕ) → 2 + w + length opens ≤ room → limited room (encoded whole) ≡ encoded whole
+  pub long-enough : (room : ℕ) → typePlace + w + length opens ≤ room → limited room (encoded whole) ≡ encoded whole
   unfolding limited
   long-enough room h = rw (le-ltb room (length whole) (omega (arith, size-is)))
 
-  pub message-put : (out : List ℕ) → 2 + w + length opens ≤ length out
-      → over (over (set (set out 0 (2 + w + length opens)) 1 0) 2 (slotsBytes slots)) (2 + w) opens ≡ whole ++ drop (length whole) out
+  pub message-put : (out : List ℕ) → typePlace + w + length opens ≤ length out
+      → overwrite (overwrite (set (set out 0 (typePlace + w + length opens)) 1 0) typePlace (slotsBytes slots)) (typePlace + w) opens ≡ whole ++ drop (length whole) out
   message-put out h =
-      let a : ℕ = 2 + w + length opens in
+      let a : ℕ = typePlace + w + length opens in
       let bs : List ℕ = slotsBytes slots in
       let head : List ℕ = a ∷ 0 ∷ [] in
-      let first : set (set out 0 a) 1 0 ≡ over out 0 head = two out a 0 (omega arith) in
-      let second : over (over out 0 head) 2 bs ≡ over out 0 (head ++ bs) = over-over out 0 head bs (omega arith) in
-      let place : 2 + w ≡ 0 + length (head ++ bs) = omega (arith, is) in
-      let third : over (over out 0 (head ++ bs)) (0 + length (head ++ bs)) opens ≡ over out 0 (head ++ bs ++ opens) = over-over out 0 (head ++ bs) opens (omega arith) in
-      let counted : a ≡ 2 + length (bs ++ opens) = omega (arith, length-append bs opens) in
+      let first : set (set out 0 a) 1 0 ≡ overwrite out 0 head = two out a 0 (omega arith) in
+      let second : overwrite (overwrite out 0 head) typePlace bs ≡ overwrite out 0 (head ++ bs) = overwrite-then out 0 head bs (omega arith) in
+      let place : typePlace + w ≡ 0 + length (head ++ bs) = omega (arith, is) in
+      let third : overwrite (overwrite out 0 (head ++ bs)) (0 + length (head ++ bs)) opens ≡ overwrite out 0 (head ++ bs ++ opens) = overwrite-then out 0 (head ++ bs) opens (omega arith) in
+      let counted : a ≡ typePlace + length (bs ++ opens) = omega (arith, length-append bs opens) in
       let same : a ∷ 0 ∷ (bs ++ opens) ≡ whole = ap (λ (n : ℕ). n ∷ 0 ∷ (bs ++ opens)) counted in
-      ap (λ (l : List ℕ). over (over l 2 bs) (2 + w) opens) first ∙ ap (λ (l : List ℕ). over l (2 + w) opens) second ∙ ap (λ (n : ℕ). over (over out 0 (head ++ bs)) n opens) place
-      ∙ third ∙ ap (over out 0) same ∙ front out whole
+      ap (λ (l : List ℕ). overwrite (overwrite l typePlace bs) (typePlace + w) opens) first ∙ ap (λ (l : List ℕ). overwrite l (typePlace + w) opens) second ∙ ap (λ (n : ℕ). overwrite (overwrite out 0 (head ++ bs)) n opens) place
+      ∙ third ∙ ap (overwrite out 0) same ∙ front out whole

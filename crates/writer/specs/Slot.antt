@@ -1,5 +1,5 @@
 -- What the slots of a message stand for: fields of a layout with their values.
-use Prim.Native.Nat.{ℕ, _+_}
+use Prim.Native.Nat.{ℕ, _+_, _-_}
 use mathlib.Core.Path.{_≡_}
 use mathlib.Core.Bool.{Bool, true, cond}
 use mathlib.Core.List.{List, [], _∷_, _++_}
@@ -8,6 +8,7 @@ use lib.ListN.{length, take, drop, replicate}
 use Rattle.protocol.specs.Rule.{any, upTo, between}
 use Rattle.protocol.specs.Field.{Field, number, highFirst, signed, float, fixed, Value, natural, integer, real}
 use Rattle.protocol.specs.Form.{informationType, alertStatus, bootString, lockString, Rest, nothing, openRun, words, layout, code}
+use Rattle.protocol.specs.Decode.{header}
 use Rattle.protocol.specs.Answer.{formOf, valuesOf, naturalAt}
 use Rattle.protocol.specs.Encode.{holds, fieldBytes, afterFields, frontValues}
 use Rattle.protocol.specs.declared.Message.{Message}
@@ -123,10 +124,14 @@ abbrev pub firstOutside : ℕ → List Slot → ℕ
 firstOutside at [] = 0
 firstOutside at (s ∷ ss) = cond (slotFits s) (firstOutside (at + length (slotBytes s)) ss) at
 
+-- the place of the type byte, the last of the header
+abbrev pub typePlace : ℕ
+typePlace = header - 1
+
+-- the message whose bytes from the type byte on are these
+abbrev pub fromTypeByte : List ℕ → List ℕ
+fromTypeByte bytes = (typePlace + length bytes) ∷ 0 ∷ bytes
+
 -- a message of slots, which are it from its type byte on, and of open bytes
 abbrev pub messageBytes : List Slot → List ℕ → List ℕ
-messageBytes slots opens = (2 + length (slotsBytes slots ++ opens)) ∷ 0 ∷ (slotsBytes slots ++ opens)
-
--- bytes laid over a list from a place on
-unfoldable pub over : List ℕ → ℕ → List ℕ → List ℕ
-over out at bytes = take at out ++ bytes ++ drop (at + length bytes) out
+messageBytes slots opens = fromTypeByte (slotsBytes slots ++ opens)

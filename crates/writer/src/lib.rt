@@ -19,14 +19,16 @@ use protocol::Written;
 ghost use mathlib.Core.Path.{_≡_};
 ghost use Prim.Native.Nat.{_+_, _≤_};
 ghost use lib.ListN.{length};
+ghost use Rattle.protocol.specs.Decode.{longestMessage};
 ghost use Rattle.protocol.specs.Encode.{encode, encoded};
 ghost use Rattle.writer.specs.Writing.{lentAfter, limited, writtenOf};
-ghost use Rattle.writer.specs.Slot.{firstOutside, messageBytes, over, slotsBytes};
+ghost use Rattle.protocol.specs.Overwrite.{overwrite};
+ghost use Rattle.writer.specs.Slot.{firstOutside, messageBytes, slotsBytes, typePlace};
 
 // The place of the first field that does not hold its value; 0 where all do.
 fn first_outside(slots: [Slot; 11]) -> u16
     requires { ⌜ length slots ≡ 11 ⌝ }
-    ensures { λ r. ⌜ r ≡ firstOutside 2 slots ⌝ }
+    ensures { λ r. ⌜ r ≡ firstOutside typePlace slots ⌝ }
 {
     let mut at = 2;
     let mut i = 0;
@@ -54,10 +56,10 @@ fn widths(slots: [Slot; 11]) -> usize
     total
 }
 
-// Lays the bytes of the slots over those of `out`, from the type byte on.
+// Overwrites `out` with the bytes of the slots, from the type byte on.
 fn put_slots(out: &mut [u8], slots: [Slot; 11])
-    requires { ⌜ (length slots ≡ 11) × (firstOutside 2 slots ≡ 0) × (2 + length (slotsBytes slots) ≤ length (now out)) ⌝ }
-    ensures { λ _. ⌜ now (out .exit) ≡ over (now (out .entry)) 2 (slotsBytes slots) ⌝ }
+    requires { ⌜ (length slots ≡ 11) × (firstOutside typePlace slots ≡ 0) × (typePlace + length (slotsBytes slots) ≤ length (now out)) ⌝ }
+    ensures { λ _. ⌜ now (out .exit) ≡ overwrite (now (out .entry)) typePlace (slotsBytes slots) ⌝ }
 {
     let mut at = 2;
     let mut i = 0;
@@ -71,7 +73,7 @@ fn put_slots(out: &mut [u8], slots: [Slot; 11])
 // Puts a message whose fields hold their values in front of what stands behind it: refusal 8, or its
 // bytes.
 fn put_message(out: &mut [u8], slots: [Slot; 11], open: &[u8]) -> Written
-    requires { ⌜ (length slots ≡ 11) × (firstOutside 2 slots ≡ 0) × (length (messageBytes slots (now «open»)) ≤ 127) ⌝ }
+    requires { ⌜ (length slots ≡ 11) × (firstOutside typePlace slots ≡ 0) × (length (messageBytes slots (now «open»)) ≤ longestMessage) ⌝ }
     ensures { λ r. ⌜ (r ≡ writtenOf (limited (length (now (out .entry))) (encoded (messageBytes slots (now («open» .entry)))))) × (now (out .exit) ≡ lentAfter (limited (length (now (out .entry))) (encoded (messageBytes slots (now («open» .entry))))) (now (out .entry))) ⌝ }
 {
     let end = 2 + widths(slots);

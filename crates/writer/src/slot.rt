@@ -11,7 +11,8 @@ ghost use lib.ListN.{length};
 ghost use lib.Ieee.{binary32, toBits};
 ghost use Rattle.protocol.specs.Number.{isFinite};
 ghost use Rattle.protocol.specs.Encode.{lowFirst, highBytes, ofInteger};
-ghost use Rattle.writer.specs.Slot.{slotFits, slotBytes, over};
+ghost use Rattle.protocol.specs.Overwrite.{overwrite};
+ghost use Rattle.writer.specs.Slot.{slotFits, slotBytes};
 
 // What stands at one place of a message: a field with its value, a fixed string, or nothing.
 pub(crate) enum Slot {
@@ -116,10 +117,10 @@ fn i32_bits(v: i32) -> u64
     }
 }
 
-// Lays bytes over those of `out` from a place on.
+// Overwrites `out` from a place on with bytes.
 pub(crate) fn put_bytes(out: &mut [u8], at: usize, bytes: &[u8])
     requires { ⌜ at + length (now bytes) ≤ length (now out) ⌝ }
-    ensures { λ _. ⌜ now (out .exit) ≡ over (now (out .entry)) at (now (bytes .entry)) ⌝ }
+    ensures { λ _. ⌜ now (out .exit) ≡ overwrite (now (out .entry)) at (now (bytes .entry)) ⌝ }
 {
     let mut i = 0;
     while i < bytes.len() {
@@ -131,7 +132,7 @@ pub(crate) fn put_bytes(out: &mut [u8], at: usize, bytes: &[u8])
 // So many bytes of a number, least significant first.
 fn put_low(out: &mut [u8], at: usize, width: usize, n: u64)
     requires { ⌜ at + width ≤ length (now out) ⌝ }
-    ensures { λ _. ⌜ now (out .exit) ≡ over (now (out .entry)) at (lowFirst width n) ⌝ }
+    ensures { λ _. ⌜ now (out .exit) ≡ overwrite (now (out .entry)) at (lowFirst width n) ⌝ }
 {
     let mut left = n;
     let mut i = 0;
@@ -145,7 +146,7 @@ fn put_low(out: &mut [u8], at: usize, width: usize, n: u64)
 // Six bytes of a number, most significant first.
 fn put_high(out: &mut [u8], at: usize, n: u64)
     requires { ⌜ at + 6 ≤ length (now out) ⌝ }
-    ensures { λ _. ⌜ now (out .exit) ≡ over (now (out .entry)) at (highBytes 6 n) ⌝ }
+    ensures { λ _. ⌜ now (out .exit) ≡ overwrite (now (out .entry)) at (highBytes 6 n) ⌝ }
 {
     let n1 = n / 256;
     let n2 = n1 / 256;
@@ -163,10 +164,10 @@ fn put_high(out: &mut [u8], at: usize, n: u64)
     put_bytes(out, at, &bytes);
 }
 
-// Lays the slot's bytes over those of `out` from a place on.
+// Overwrites `out` from a place on with the slot's bytes.
 pub(crate) fn put_slot(out: &mut [u8], at: usize, slot: Slot)
     requires { ⌜ (at + length (slotBytes slot) ≤ length (now out)) × (slotFits slot ≡ true) ⌝ }
-    ensures { λ _. ⌜ now (out .exit) ≡ over (now (out .entry)) at (slotBytes slot) ⌝ }
+    ensures { λ _. ⌜ now (out .exit) ≡ overwrite (now (out .entry)) at (slotBytes slot) ⌝ }
 {
     match slot {
         Slot::Nothing => {}

@@ -6,14 +6,14 @@ use mathlib.Core.List.{List, _++_}
 use lib.Dec.{ltb}
 use lib.ListN.{length, drop}
 use borrow.Author.Tests.{lt-ltb, le-ltb}
-use Rattle.message_cells.specs.Cells.{cellsAfter, readCells}
+use Rattle.message_cells.specs.Row.{rowAfter, readRow}
 use Rattle.capi.proofs.OpenPart.{open-short}
 use borrow.Author.Needs.{needs}
 use Rattle.capi.proofs.castanetash_read.Statement.{statement}
 use Rattle.capi.proofs.castanetash_read.Tie as tie
 
 returns : tie.Need-returns
-unfolding cellsAfter readCells
+unfolding rowAfter readRow
 returns c =
     let before = c .before .before .before .args .cells .now in
     let few : ltb (length before) 20 ≡ true = lt-ltb (length before) 20 (omega (arith, c .if1 .taken)) in
@@ -41,7 +41,7 @@ same-length : tie.Need-same-length
 same-length c = search needs
 
 returns-2 : tie.Need-returns-2
-unfolding cellsAfter readCells
+unfolding rowAfter readRow
 returns-2 c =
     let before = c .before .before .before .before .before .before .before .before .before .before .before .before .args .cells .now in
     let row = c .before .before .before .before .before .cells-of .result in

@@ -20,8 +20,8 @@ array-write-cells-2 c = search needs
 enum-known-reading-2 : tie.Need-enum-known-reading-2
 enum-known-reading-2 c = search needs
 
-message-cells-requires : tie.Need-message-cells-requires
-message-cells-requires c κs = search needs
+message-row-requires : tie.Need-message-row-requires
+message-row-requires c κs = search needs
 
 open-start-requires : tie.Need-open-start-requires
 open-start-requires c κs = search needs
@@ -36,7 +36,7 @@ returns : tie.Need-returns
 returns c = rw (c .before .reading .given .1)
 
 returns-2 : tie.Need-returns-2
-returns-2 c = rw (c .before .before .before .reading2 .given .1, c .before .message-cells .ensures, c .open-start .ensures)
+returns-2 c = rw (c .before .before .before .reading2 .given .1, c .before .message-row .ensures, c .open-start .ensures)
 
 pub cells-of-spec : {M : Type 1} → statement M
 cells-of-spec =
@@ -48,7 +48,7 @@ cells-of-spec =
     cast-cells-2
     array-write-cells-2
     enum-known-reading-2
-    message-cells-requires
+    message-row-requires
     open-start-requires
     array-write-cells-3
     array-write-cells-4

@@ -2,7 +2,7 @@ use mathlib.Core.Path.{sym, _∙_, ap}
 use Rattle.protocol.specs.declared.Way.{Way}
 use Rattle.protocol.specs.Decode.{decode, decodeWay}
 use Rattle.protocol.proofs.Selection.{headed}
-use borrow.Author.Tests.{lt-ltb, le-ltb, eq-eqb, le-leb, lt-leb, ne-eqb}
+use borrow.Author.Tests.{lt-ltb, le-ltb, eq-eqb, ne-eqb}
 use borrow.Author.Needs.{needs}
 use Rattle.codec.proofs.read.Statement.{statement}
 use Rattle.codec.proofs.read.Tie as tie
@@ -22,7 +22,7 @@ refuse-requires-2 c κs = search needs
 
 returns-2 : tie.Need-returns-2
 unfolding decode
-returns-2 c = simp (c .refuse2 .ensures, le-leb _ _ (c .before .if2 .taken), ne-eqb _ _ (c .before .before .before .if1 .left))
+returns-2 c = simp (c .refuse2 .ensures, lt-ltb _ _ (c .before .if2 .taken), ne-eqb _ _ (c .before .before .before .if1 .left))
 
 cast-if3 : tie.Need-cast-if3
 cast-if3 c = search needs
@@ -32,14 +32,14 @@ refuse-requires-3 c κs = search needs
 
 returns-3 : tie.Need-returns-3
 unfolding decode
-returns-3 c = simp (c .refuse3 .ensures, ne-eqb _ _ (c .before .if3 .taken), lt-leb _ _ (c .before .before .if2 .left), ne-eqb _ _ (c .before .before .before .before .if1 .left))
+returns-3 c = simp (c .refuse3 .ensures, ne-eqb _ _ (c .before .if3 .taken), le-ltb _ _ (c .before .before .if2 .left), ne-eqb _ _ (c .before .before .before .before .if1 .left))
 
 refuse-requires-4 : tie.Need-refuse-requires-4
 refuse-requires-4 c κs = search needs
 
 returns-4 : tie.Need-returns-4
 unfolding decode
-returns-4 c = simp (c .refuse4 .ensures, lt-ltb _ _ (c .before .if4 .taken), eq-eqb _ _ (c .before .before .if3 .left), lt-leb _ _ (c .before .before .before .if2 .left), ne-eqb _ _ (c .before .before .before .before .before .if1 .left))
+returns-4 c = simp (c .refuse4 .ensures, lt-ltb _ _ (c .before .if4 .taken), eq-eqb _ _ (c .before .before .if3 .left), le-ltb _ _ (c .before .before .before .if2 .left), ne-eqb _ _ (c .before .before .before .before .before .if1 .left))
 
 shared-slice-read-if5 : tie.Need-shared-slice-read-if5
 shared-slice-read-if5 c = search needs
@@ -49,7 +49,7 @@ refuse-requires-5 c κs = search needs
 
 returns-5 : tie.Need-returns-5
 unfolding decode
-returns-5 c = simp (c .refuse5 .ensures, ne-eqb _ _ (c .before .if5 .taken), le-ltb _ _ (c .before .before .before .if4 .left), eq-eqb _ _ (c .before .before .before .before .if3 .left), lt-leb _ _ (c .before .before .before .before .before .if2 .left), ne-eqb _ _ (c .before .before .before .before .before .before .before .if1 .left))
+returns-5 c = simp (c .refuse5 .ensures, ne-eqb _ _ (c .before .if5 .taken), le-ltb _ _ (c .before .before .before .if4 .left), eq-eqb _ _ (c .before .before .before .before .if3 .left), le-ltb _ _ (c .before .before .before .before .before .if2 .left), ne-eqb _ _ (c .before .before .before .before .before .before .before .if1 .left))
 
 enum-told : tie.Need-enum-told
 enum-told c = search needs
@@ -66,12 +66,12 @@ read-up-requires c κs = search needs
 returns-6 : tie.Need-returns-6
 returns-6 c = c .read-down .ensures ∙ ap (λ (w : Way). decodeWay w (c .before .before .before .before .before .before .before .before .before .before .before .args .message .now)) (sym (c .before .enum-told .given .1))
     ∙ sym
-    (headed (c .before .before .before .before .before .before .before .before .before .before .before .args .way) (c .before .before .before .before .before .before .before .before .before .before .before .args .message .now) (ne-eqb _ _ (c .before .before .before .before .before .before .before .before .before .if1 .left)) (lt-leb _ _ (c .before .before .before .before .before .before .before .if2 .left)) (eq-eqb _ _ (c .before .before .before .before .before .before .if3 .left)) (le-ltb _ _ (c .before .before .before .before .before .if4 .left)) (eq-eqb _ _ (c .before .before .before .if5 .left)))
+    (headed (c .before .before .before .before .before .before .before .before .before .before .before .args .way) (c .before .before .before .before .before .before .before .before .before .before .before .args .message .now) (ne-eqb _ _ (c .before .before .before .before .before .before .before .before .before .if1 .left)) (le-ltb _ _ (c .before .before .before .before .before .before .before .if2 .left)) (eq-eqb _ _ (c .before .before .before .before .before .before .if3 .left)) (le-ltb _ _ (c .before .before .before .before .before .if4 .left)) (eq-eqb _ _ (c .before .before .before .if5 .left)))
 
 returns-7 : tie.Need-returns-7
 returns-7 c = c .read-up .ensures ∙ ap (λ (w : Way). decodeWay w (c .before .before .before .before .before .before .before .before .before .before .before .args .message .now)) (sym (c .before .enum-told2 .given .1))
     ∙ sym
-    (headed (c .before .before .before .before .before .before .before .before .before .before .before .args .way) (c .before .before .before .before .before .before .before .before .before .before .before .args .message .now) (ne-eqb _ _ (c .before .before .before .before .before .before .before .before .before .if1 .left)) (lt-leb _ _ (c .before .before .before .before .before .before .before .if2 .left)) (eq-eqb _ _ (c .before .before .before .before .before .before .if3 .left)) (le-ltb _ _ (c .before .before .before .before .before .if4 .left)) (eq-eqb _ _ (c .before .before .before .if5 .left)))
+    (headed (c .before .before .before .before .before .before .before .before .before .before .before .args .way) (c .before .before .before .before .before .before .before .before .before .before .before .args .message .now) (ne-eqb _ _ (c .before .before .before .before .before .before .before .before .before .if1 .left)) (le-ltb _ _ (c .before .before .before .before .before .before .before .if2 .left)) (eq-eqb _ _ (c .before .before .before .before .before .before .if3 .left)) (le-ltb _ _ (c .before .before .before .before .before .if4 .left)) (eq-eqb _ _ (c .before .before .before .if5 .left)))
 
 pub read-spec : {M : Type 1} → statement M
 read-spec =

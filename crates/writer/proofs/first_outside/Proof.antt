@@ -6,14 +6,14 @@ use borrow.Author.Needs.{needs}
 use borrow.Author.Tests.{not-true, not-false}
 use lib.ListN.{length, drop, drop-of-length-le}
 use Rattle.writer.proofs.Walk.{outside-here, inside-here}
-use Rattle.writer.specs.Slot.{firstOutside}
+use Rattle.writer.specs.Slot.{firstOutside, typePlace}
 use Rattle.writer.specs.declared.slot.Slot.{Slot}
 use Rattle.writer.specs.declared.slot.Slot.the-variants as Slot'
 use Rattle.writer.proofs.first_outside.Statement.{statement}
 use Rattle.writer.proofs.first_outside.Tie as tie
 
 abbrev Inv-loop : tie.InvT-loop
-Inv-loop slots at₀ i₀ at i = (i ≤ 11) × (at ≤ 2 + 9 * i) × (firstOutside 2 slots ≡ firstOutside at (drop i slots))
+Inv-loop slots at₀ i₀ at i = (i ≤ 11) × (at ≤ typePlace + 9 * i) × (firstOutside typePlace slots ≡ firstOutside at (drop i slots))
 
 abbrev μ-loop : tie.MeasureT-loop
 μ-loop slots at₀ i₀ at i = 11 - i

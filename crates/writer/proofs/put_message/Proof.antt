@@ -8,7 +8,8 @@ use Rattle.protocol.specs.Encode.{Encoded}
 use Rattle.writer.specs.Writing.{writtenOf, lentAfter}
 use Rattle.protocol.specs.declared.Written.the-variants.{Length}
 use Rattle.writer.proofs.Whole.{size-is, too-short, long-enough, header-length, message-put}
-use Rattle.writer.specs.Slot.{over}
+use Rattle.protocol.specs.Overwrite.{overwrite}
+use Rattle.writer.specs.Slot.{typePlace}
 use borrow.Author.Needs.{needs}
 use Rattle.writer.proofs.put_message.Statement.{statement}
 use Rattle.writer.proofs.put_message.Tie as tie
@@ -37,23 +38,23 @@ slice-write-out-2 : tie.Need-slice-write-out-2
 slice-write-out-2 c = lt-length-set (c .before .before .before .before .args .out .now) 0 _ (omega (arith, c .if1 .left))
 
 put-slots-requires : tie.Need-put-slots-requires
-put-slots-requires c κs = (c .before .before .before .before .before .pre .0, c .before .before .before .before .before .pre .1, omega (arith, header-length (c .before .before .before .before .before .args .out .now) (2 + c .before .before .widths .result + length (c .before .before .before .before .before .args .«open» .now)) 0, c .before .if1 .left, c .before .before .widths .ensures .0))
+put-slots-requires c κs = (c .before .before .before .before .before .pre .0, c .before .before .before .before .before .pre .1, omega (arith, header-length (c .before .before .before .before .before .args .out .now) (typePlace + c .before .before .widths .result + length (c .before .before .before .before .before .args .«open» .now)) 0, c .before .if1 .left, c .before .before .widths .ensures .0))
 
 put-bytes-requires : tie.Need-put-bytes-requires
-put-bytes-requires c κs = omega (arith, c .before .before .before .put-slots .kept .0, header-length (c .before .before .before .before .before .before .before .before .before .args .out .now) (2 + c .before .before .before .before .before .before .widths .result + length (c .before .before .before .before .before .before .before .before .before .args .«open» .now)) 0, c .before .before .before .before .before .if1 .left)
+put-bytes-requires c κs = omega (arith, c .before .before .before .put-slots .kept .0, header-length (c .before .before .before .before .before .before .before .before .before .args .out .now) (typePlace + c .before .before .before .before .before .before .widths .result + length (c .before .before .before .before .before .before .before .before .before .args .«open» .now)) 0, c .before .before .before .before .before .if1 .left)
 
 cast-t16 : tie.Need-cast-t16
 cast-t16 c = record { fits = omega (arith, size-is (c .before .before .before .before .before .before .before .before .before .before .before .before .args .slots) (c .before .before .before .before .before .before .before .before .before .before .before .before .args .«open» .now) (c .before .before .before .before .before .before .before .before .before .widths .result) (c .before .before .before .before .before .before .before .before .before .widths .ensures .0), c .before .before .before .before .before .before .before .before .before .before .before .before .pre .2) }
 
 same-length : tie.Need-same-length
-same-length c = c .before .before .put-bytes .kept .0 ∙ c .before .before .before .before .before .before .put-slots .kept .0 ∙ header-length (c .before .before .before .before .before .before .before .before .before .before .before .before .args .out .now) (2 + c .before .before .before .before .before .before .before .before .before .widths .result + length (c .before .before .before .before .before .before .before .before .before .before .before .before .args .«open» .now)) 0
+same-length c = c .before .before .put-bytes .kept .0 ∙ c .before .before .before .before .before .before .put-slots .kept .0 ∙ header-length (c .before .before .before .before .before .before .before .before .before .before .before .before .args .out .now) (typePlace + c .before .before .before .before .before .before .before .before .before .widths .result + length (c .before .before .before .before .before .before .before .before .before .before .before .before .args .«open» .now)) 0
 
 returns-2 : tie.Need-returns-2
 returns-2 c =
     let enough = long-enough (c .before .before .before .before .before .before .before .before .before .before .before .before .args .slots) (c .before .before .before .before .before .before .before .before .before .before .before .before .args .«open» .now) (c .before .before .before .before .before .before .before .before .before .widths .result) (c .before .before .before .before .before .before .before .before .before .widths .ensures .0) (length (c .before .before .before .before .before .before .before .before .before .before .before .before .args .out .now)) (c .before .before .before .before .before .before .before .before .if1 .left) in
     let put = message-put (c .before .before .before .before .before .before .before .before .before .before .before .before .args .slots) (c .before .before .before .before .before .before .before .before .before .before .before .before .args .«open» .now) (c .before .before .before .before .before .before .before .before .before .widths .result) (c .before .before .before .before .before .before .before .before .before .widths .ensures .0) (c .before .before .before .before .before .before .before .before .before .before .before .before .args .out .now) (c .before .before .before .before .before .before .before .before .if1 .left) in (
       ap Length (size-is (c .before .before .before .before .before .before .before .before .before .before .before .before .args .slots) (c .before .before .before .before .before .before .before .before .before .before .before .before .args .«open» .now) (c .before .before .before .before .before .before .before .before .before .widths .result) (c .before .before .before .before .before .before .before .before .before .widths .ensures .0)) ∙ sym (ap writtenOf enough),
-      c .before .before .put-bytes .ensures ∙ ap (λ (l : List ℕ). over l (2 + c .before .before .before .before .before .before .before .before .before .widths .result) (c .before .before .before .before .before .before .before .before .before .before .before .before .args .«open» .now)) (c .before .before .before .before .before .before .put-slots .ensures) ∙ put ∙ sym (ap (λ (x : Encoded). lentAfter x (c .before .before .before .before .before .before .before .before .before .before .before .before .args .out .now)) enough),
+      c .before .before .put-bytes .ensures ∙ ap (λ (l : List ℕ). overwrite l (typePlace + c .before .before .before .before .before .before .before .before .before .widths .result) (c .before .before .before .before .before .before .before .before .before .before .before .before .args .«open» .now)) (c .before .before .before .before .before .before .put-slots .ensures) ∙ put ∙ sym (ap (λ (x : Encoded). lentAfter x (c .before .before .before .before .before .before .before .before .before .before .before .before .args .out .now)) enough),
     )
 
 pub put-message-spec : {M : Type 1} → statement M

@@ -5,9 +5,10 @@ use native.Mathlib.Omega.{arith}
 use borrow.Author.Needs.{needs}
 use lib.ListN.{length, getD}
 use lib.Seq.{take-all}
-use Rattle.writer.proofs.Over.{over-nothing}
+use Rattle.protocol.proofs.Overwrite.{overwrite-nothing}
 use Rattle.writer.proofs.Walk.{Put, put-here, put-one, put-length}
-use Rattle.writer.specs.Slot.{slotBytes, slotsBytes, over}
+use Rattle.protocol.specs.Overwrite.{overwrite}
+use Rattle.writer.specs.Slot.{slotBytes, slotsBytes, typePlace}
 use Rattle.writer.specs.declared.slot.Slot.{Slot}
 use Rattle.writer.specs.declared.slot.Slot.the-variants as Slot'
 use Rattle.writer.proofs.put_slots.Statement.{statement}
@@ -20,7 +21,7 @@ abbrev μ-loop : tie.MeasureT-loop
 μ-loop out₀ slots at₀ i₀ out at i = 11 - i
 
 loop-holds : tie.Need-loop-holds Inv-loop μ-loop
-loop-holds c = record { few = omega arith; narrow = omega arith; place = refl; done = sym (over-nothing (c .before .args .out .now) 2); rest = c .before .pre .1 }
+loop-holds c = record { few = omega arith; narrow = omega arith; place = refl; done = sym (overwrite-nothing (c .before .args .out .now) typePlace); rest = c .before .pre .1 }
 
 mul-put-slot : tie.Need-mul-put-slot Inv-loop μ-loop
 mul-put-slot c = search needs
@@ -67,7 +68,7 @@ returns : tie.Need-returns Inv-loop μ-loop
 returns c =
     let slots : List Slot = c .before .before .before .args .t2 in
     let i : ℕ = c .before .loop .i in
-    c .before .loop .inv .done ∙ ap (λ (l : List Slot). over (c .before .before .before .args .out .now) 2 (slotsBytes l)) (take-all i slots (omega (arith, c .before .before .before .pre .0, c .loop-test .left)))
+    c .before .loop .inv .done ∙ ap (λ (l : List Slot). overwrite (c .before .before .before .args .out .now) typePlace (slotsBytes l)) (take-all i slots (omega (arith, c .before .before .before .pre .0, c .loop-test .left)))
 
 pub put-slots-spec : {M : Type 1} → statement M
 put-slots-spec =

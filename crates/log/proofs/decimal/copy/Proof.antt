@@ -2,7 +2,7 @@ use Prim.Native.Nat.{_-_}
 use native.Mathlib.Omega.{arith}
 use lib.ListN.{length}
 use borrow.Author.Needs.{needs}
-use Rattle.log.proofs.Laying.{filled-length, Copied, copied-none, copied-room, copied-one, copied-all}
+use Rattle.log.proofs.OverwriteIfRoom.{filled-length, Copied, copied-none, copied-room, copied-one, copied-all}
 use Rattle.log.proofs.decimal.copy.Statement.{statement}
 use Rattle.log.proofs.decimal.copy.Tie as tie
 

@@ -1,5 +1,5 @@
 use borrow.Author.Needs.{needs}
-use Rattle.log.proofs.Laying.{laid-byte, laid-no-byte}
+use Rattle.log.proofs.OverwriteIfRoom.{if-room-byte, if-no-room-byte}
 use Rattle.log.proofs.decimal.put_byte.Statement.{statement}
 use Rattle.log.proofs.decimal.put_byte.Tie as tie
 
@@ -10,10 +10,10 @@ same-length : tie.Need-same-length
 same-length c = search needs
 
 returns : tie.Need-returns
-returns c = laid-byte (c .before .args .out .now) (c .before .args .at) (c .before .args .b) (c .if1 .taken)
+returns c = if-room-byte (c .before .args .out .now) (c .before .args .at) (c .before .args .b) (c .if1 .taken)
 
 returns-2 : tie.Need-returns-2
-returns-2 c = laid-no-byte (c .before .args .out .now) (c .before .args .at) (c .before .args .b) (c .if1 .left)
+returns-2 c = if-no-room-byte (c .before .args .out .now) (c .before .args .at) (c .before .args .b) (c .if1 .left)
 
 pub put-byte-spec : {M : Type 1} → statement M
 put-byte-spec = tie.close (tie.spec slice-write-out same-length returns returns-2)

@@ -2,7 +2,7 @@ use native.Mathlib.Omega.{arith}
 use mathlib.Core.Path.{sym, _∙_}
 use borrow.Author.Needs.{needs}
 use Rattle.log.specs.Decimal.{decimal}
-use Rattle.log.proofs.Laying.{laid-over, laid-not}
+use Rattle.log.proofs.OverwriteIfRoom.{if-room, if-no-room}
 use Rattle.log.proofs.decimal.put_decimal.Statement.{statement}
 use Rattle.log.proofs.decimal.put_decimal.Tie as tie
 
@@ -13,7 +13,7 @@ returns : tie.Need-returns
 returns c =
     let a = c .before .before .before .args in
     let e = c .before .places .ensures in
-    (e .0, e .2, sym (laid-not (a .out .now) (a .at) (decimal (a .n)) (omega (arith, e .0, c .if1 .taken))))
+    (e .0, e .2, sym (if-no-room (a .out .now) (a .at) (decimal (a .n)) (omega (arith, e .0, c .if1 .taken))))
 
 sub-if2 : tie.Need-sub-if2
 sub-if2 c = search needs
@@ -22,7 +22,7 @@ returns-2 : tie.Need-returns-2
 returns-2 c =
     let a = c .before .before .before .before .args in
     let e = c .before .before .places .ensures in
-    (e .0, e .2, sym (laid-not (a .out .now) (a .at) (decimal (a .n)) (omega (arith, e .0, c .before .if1 .left, c .if2 .taken))))
+    (e .0, e .2, sym (if-no-room (a .out .now) (a .at) (decimal (a .n)) (omega (arith, e .0, c .before .if1 .left, c .if2 .taken))))
 
 spell-requires : tie.Need-spell-requires
 spell-requires c κs = search needs
@@ -34,7 +34,7 @@ returns-3 : tie.Need-returns-3
 returns-3 c =
     let a = c .before .before .before .before .before .before .before .before .args in
     let e = c .before .before .before .before .before .before .places .ensures in
-    (e .0, e .2, c .before .before .spell .ensures ∙ sym (laid-over (a .out .now) (a .at) (decimal (a .n)) (omega (arith, e .0))))
+    (e .0, e .2, c .before .before .spell .ensures ∙ sym (if-room (a .out .now) (a .at) (decimal (a .n)) (omega (arith, e .0))))
 
 pub put-decimal-spec : {M : Type 1} → statement M
 put-decimal-spec = tie.close (tie.spec places-requires returns sub-if2 returns-2 spell-requires same-length returns-3)

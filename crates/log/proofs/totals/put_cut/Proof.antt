@@ -4,19 +4,19 @@ use lib.ListN.{length}
 use borrow.Author.Needs.{needs}
 use Rattle.log.specs.Line as Line
 use Rattle.log.specs.Output.{numbered, totalText}
-use Rattle.log.proofs.Endings.{in-most-lines, in-most-refused, in-cut, none-laid, cut-laid}
+use Rattle.log.proofs.Endings.{in-most-lines, in-most-refused, in-cut, none-written, cut-written}
 use Rattle.log.proofs.totals.put_cut.Statement.{statement}
 use Rattle.log.proofs.totals.put_cut.Tie as tie
 
 returns : tie.Need-returns
 returns c =
     let a = c .before .before .args in
-    none-laid (a .out .now) (in-most-lines (length (a .out .now)) (a .lines) (a .refused) (c .before .before .pre) (c .if1 .taken))
+    none-written (a .out .now) (in-most-lines (length (a .out .now)) (a .lines) (a .refused) (c .before .before .pre) (c .if1 .taken))
 
 returns-2 : tie.Need-returns-2
 returns-2 c =
     let a = c .before .before .before .args in
-    none-laid (a .out .now) (in-most-refused (length (a .out .now)) (a .lines) (a .refused) (c .before .before .before .pre) (c .before .if1 .left) (c .if2 .taken))
+    none-written (a .out .now) (in-most-refused (length (a .out .now)) (a .lines) (a .refused) (c .before .before .before .pre) (c .before .if1 .left) (c .if2 .taken))
 
 put-last-requires : tie.Need-put-last-requires
 put-last-requires c κs = search needs
@@ -42,7 +42,7 @@ returns-3 c =
     let c₁ = c₂ .before .before .before .before in
     let c₀ = c₁ .before .before .before .before .before in
     let a = c₀ .args in
-    cut-laid (a .out .now) (numbered (a .lines) (Line.refused 19 ∷ [])) (totalText (a .lines + 1) (a .refused + 1))
+    cut-written (a .out .now) (numbered (a .lines) (Line.refused 19 ∷ [])) (totalText (a .lines + 1) (a .refused + 1))
     (in-cut (length (a .out .now)) (a .lines) (a .refused) (c₀ .pre) (c₁ .before .before .before .if1 .left) (c₁ .before .before .if2 .left)) (c₀ .pre) (c₁ .put-last .ensures) (c₂ .put-total .ensures)
 
 pub put-cut-spec : {M : Type 1} → statement M

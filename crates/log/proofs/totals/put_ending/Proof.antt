@@ -7,15 +7,15 @@ use lib.ListN.{length}
 use borrow.Author.Needs.{needs}
 use Rattle.log.specs.Output.{totalText}
 use Rattle.log.specs.Ending.{endingIn}
-use Rattle.log.proofs.Laying.{over-nothing}
-use Rattle.log.proofs.Endings.{in-none, in-whole, ending-laid}
+use Rattle.protocol.proofs.Overwrite.{overwrite-nothing}
+use Rattle.log.proofs.Endings.{in-none, in-whole, ending-written}
 use Rattle.log.proofs.totals.put_ending.Statement.{statement}
 use Rattle.log.proofs.totals.put_ending.Tie as tie
 
 returns : tie.Need-returns
 returns c =
     let a = c .before .before .args in
-    ending-laid (a .out .now) [] (endingIn (length (a .out .now)) (a .lines) (a .refused) (a .cut)) (sym (in-none (length (a .out .now)) (a .lines) (a .refused) (a .cut) (c .if1 .taken))) refl (omega arith) (sym (over-nothing (a .out .now) 0))
+    ending-written (a .out .now) [] (endingIn (length (a .out .now)) (a .lines) (a .refused) (a .cut)) (sym (in-none (length (a .out .now)) (a .lines) (a .refused) (a .cut) (c .if1 .taken))) refl (omega arith) (sym (overwrite-nothing (a .out .now) 0))
 
 put-cut-requires : tie.Need-put-cut-requires
 put-cut-requires c κs = search needs
@@ -32,7 +32,7 @@ returns-2 c =
     let a = c₁ .before .before .before .before .before .args in
     let ending : Bool → List ℕ = endingIn (length (a .out .now)) (a .lines) (a .refused) in
     let e = c₁ .put-cut .ensures in
-    ending-laid (a .out .now) (ending true) (ending (a .cut)) (ap ending (sym (c₁ .before .before .if2 .taken))) (e .0) (omega (arith, e .1, c₁ .before .before .before .if1 .left)) (e .2)
+    ending-written (a .out .now) (ending true) (ending (a .cut)) (ap ending (sym (c₁ .before .before .if2 .taken))) (e .0) (omega (arith, e .1, c₁ .before .before .before .if1 .left)) (e .2)
 
 same-length-2 : tie.Need-same-length-2
 same-length-2 c = search needs
@@ -44,7 +44,7 @@ returns-3 c =
     let ending : Bool → List ℕ = endingIn (length (a .out .now)) (a .lines) (a .refused) in
     let e = c₁ .put-total .ensures in
     let room = c₁ .before .before .before .if1 .left in
-    ending-laid (a .out .now) (totalText (a .lines) (a .refused)) (ending (a .cut)) (sym (in-whole (length (a .out .now)) (a .lines) (a .refused) room) ∙ ap ending (sym (c₁ .before .before .if2 .left))) (e .0) (omega (arith, e .1, room)) (e .2)
+    ending-written (a .out .now) (totalText (a .lines) (a .refused)) (ending (a .cut)) (sym (in-whole (length (a .out .now)) (a .lines) (a .refused) room) ∙ ap ending (sym (c₁ .before .before .if2 .left))) (e .0) (omega (arith, e .1, room)) (e .2)
 
 pub put-ending-spec : {M : Type 1} → statement M
 put-ending-spec =

@@ -1,5 +1,5 @@
 use borrow.Author.Needs.{needs}
-use Rattle.log.proofs.Endings.{last-laid}
+use Rattle.log.proofs.Endings.{last-written}
 use Rattle.log.proofs.totals.put_last.Statement.{statement}
 use Rattle.log.proofs.totals.put_last.Tie as tie
 
@@ -26,7 +26,7 @@ returns c =
     let c₂ = c .before .before in
     let c₁ = c₂ .before .before .before .before .before in
     let c₀ = c₁ .before .before .before in
-    last-laid (c₀ .args .out .now) (c₀ .args .lines) (c₀ .pre .0) (c₁ .put-decimal .ensures) (c₂ .put-bytes .ensures)
+    last-written (c₀ .args .out .now) (c₀ .args .lines) (c₀ .pre .0) (c₁ .put-decimal .ensures) (c₂ .put-bytes .ensures)
 
 pub put-last-spec : {M : Type 1} → statement M
 put-last-spec =

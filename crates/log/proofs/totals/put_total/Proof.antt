@@ -1,5 +1,5 @@
 use borrow.Author.Needs.{needs}
-use Rattle.log.proofs.Endings.{total-laid}
+use Rattle.log.proofs.Endings.{total-written}
 use Rattle.log.proofs.totals.put_total.Statement.{statement}
 use Rattle.log.proofs.totals.put_total.Tie as tie
 
@@ -65,7 +65,7 @@ returns c =
     let c₂ = c₃ .before .before .before .before .before in
     let c₁ = c₂ .before .before .before .before in
     let c₀ = c₁ .before .before .before .before in
-    total-laid (c₀ .args .out .now) (c₀ .args .at) (c₀ .args .lines) (c₀ .args .refused) (c₀ .pre) (c₁ .put-bytes .ensures) (c₂ .put-decimal .ensures) (c₃ .put-bytes2 .ensures) (c₄ .put-decimal2 .ensures) (c₅ .put-byte .ensures)
+    total-written (c₀ .args .out .now) (c₀ .args .at) (c₀ .args .lines) (c₀ .args .refused) (c₀ .pre) (c₁ .put-bytes .ensures) (c₂ .put-decimal .ensures) (c₃ .put-bytes2 .ensures) (c₄ .put-decimal2 .ensures) (c₅ .put-byte .ensures)
 
 pub put-total-spec : {M : Type 1} → statement M
 put-total-spec =

@@ -6,41 +6,41 @@ use mir.Syntax.{w32, w64}
 use mir.Facts.{toZ-ofZ}
 use Rattle.protocol.proofs.Unsigned as Unsigned
 use Rattle.protocol.specs.Field.{integer}
-use Rattle.message_cells.specs.Cells.{cell}
+use Rattle.message_cells.specs.Row.{numberOf}
 use Rattle.message_cells.proofs.message.signed.Statement.{statement}
 use Rattle.message_cells.proofs.message.signed.Tie as tie
 
-abbrev as-cell : ℤ → ℕ
-as-cell z = cell (integer z)
+abbrev as-number : ℤ → ℕ
+as-number z = numberOf (integer z)
 
 cast-result : tie.Need-cast-result
-cast-result c = rw (toZ-ofZ (c .before .fits .v)) (Unsigned.upper w32 2147483648 18446744073709551616 as-cell refl (omega arith) (omega arith) (λ n. refl) (λ n. refl) (c .before .args .v) (c .before .fits .v) (rw (toZ-ofZ (c .before .fits .v)) at (c .if1 .taken)))
+cast-result c = rw (toZ-ofZ (c .before .fits .v)) (Unsigned.upper w32 2147483648 18446744073709551616 as-number refl (omega arith) (omega arith) (λ n. refl) (λ n. refl) (c .before .args .v) (c .before .fits .v) (rw (toZ-ofZ (c .before .fits .v)) at (c .if1 .taken)))
 
 cast-result-2 : tie.Need-cast-result-2
 cast-result-2 c = rw (toZ-ofZ (c .before .fits .v)) (Unsigned.wider w32 w64 (omega arith) (c .before .args .v) (c .before .fits .v))
 
 add-result : tie.Need-add-result
 add-result c =
-    Unsigned.sum-fits w32 2147483648 18446744073709551616 as-cell refl (omega arith) (omega arith) (λ n. refl) (λ n. refl) (c .before .args .v) (c .before .fits .v)
-    (Unsigned.raised w32 2147483648 18446744073709551616 as-cell refl (omega arith) (omega arith) (λ n. refl) (λ n. refl) (c .before .args .v) (c .before .fits .v) (rw (toZ-ofZ (c .before .fits .v)) at (c .if1 .left)))
+    Unsigned.sum-fits w32 2147483648 18446744073709551616 as-number refl (omega arith) (omega arith) (λ n. refl) (λ n. refl) (c .before .args .v) (c .before .fits .v)
+    (Unsigned.raised w32 2147483648 18446744073709551616 as-number refl (omega arith) (omega arith) (λ n. refl) (λ n. refl) (c .before .args .v) (c .before .fits .v) (rw (toZ-ofZ (c .before .fits .v)) at (c .if1 .left)))
 
 cast-result-3 : tie.Need-cast-result-3
 cast-result-3 c =
-    let r = Unsigned.raised w32 2147483648 18446744073709551616 as-cell refl (omega arith) (omega arith) (λ n. refl) (λ n. refl) (c .before .args .v) (c .before .fits .v) (rw (toZ-ofZ (c .before .fits .v)) at (c .if1 .left)) in
-    rw (Unsigned.sum-back w32 2147483648 18446744073709551616 as-cell refl (omega arith) (omega arith) (λ n. refl) (λ n. refl) (c .before .args .v) (c .before .fits .v) r) (tt, record { fits = omega (arith, r .small) })
+    let r = Unsigned.raised w32 2147483648 18446744073709551616 as-number refl (omega arith) (omega arith) (λ n. refl) (λ n. refl) (c .before .args .v) (c .before .fits .v) (rw (toZ-ofZ (c .before .fits .v)) at (c .if1 .left)) in
+    rw (Unsigned.sum-back w32 2147483648 18446744073709551616 as-number refl (omega arith) (omega arith) (λ n. refl) (λ n. refl) (c .before .args .v) (c .before .fits .v) r) (tt, record { fits = omega (arith, r .small) })
 
 add-result-2 : tie.Need-add-result-2
 add-result-2 c =
-    let r = Unsigned.raised w32 2147483648 18446744073709551616 as-cell refl (omega arith) (omega arith) (λ n. refl) (λ n. refl) (c .before .args .v) (c .before .fits .v) (rw (toZ-ofZ (c .before .fits .v)) at (c .if1 .left)) in
-    rw (Unsigned.sum-back w32 2147483648 18446744073709551616 as-cell refl (omega arith) (omega arith) (λ n. refl) (λ n. refl) (c .before .args .v) (c .before .fits .v) r) (record { fits = omega (arith, r .small) })
+    let r = Unsigned.raised w32 2147483648 18446744073709551616 as-number refl (omega arith) (omega arith) (λ n. refl) (λ n. refl) (c .before .args .v) (c .before .fits .v) (rw (toZ-ofZ (c .before .fits .v)) at (c .if1 .left)) in
+    rw (Unsigned.sum-back w32 2147483648 18446744073709551616 as-number refl (omega arith) (omega arith) (λ n. refl) (λ n. refl) (c .before .args .v) (c .before .fits .v) r) (record { fits = omega (arith, r .small) })
 
 returns : tie.Need-returns
-returns c = rw (toZ-ofZ (c .before .fits .v)) (Unsigned.upper-bits w32 2147483648 18446744073709551616 as-cell refl (omega arith) (omega arith) (λ n. refl) (λ n. refl) (c .before .args .v) (rw (toZ-ofZ (c .before .fits .v)) at (c .if1 .taken)))
+returns c = rw (toZ-ofZ (c .before .fits .v)) (Unsigned.upper-bits w32 2147483648 18446744073709551616 as-number refl (omega arith) (omega arith) (λ n. refl) (λ n. refl) (c .before .args .v) (rw (toZ-ofZ (c .before .fits .v)) at (c .if1 .taken)))
 
 returns-2 : tie.Need-returns-2
 returns-2 c =
-    let r = Unsigned.raised w32 2147483648 18446744073709551616 as-cell refl (omega arith) (omega arith) (λ n. refl) (λ n. refl) (c .before .args .v) (c .before .fits .v) (rw (toZ-ofZ (c .before .fits .v)) at (c .if1 .left)) in
-    rw (Unsigned.sum-back w32 2147483648 18446744073709551616 as-cell refl (omega arith) (omega arith) (λ n. refl) (λ n. refl) (c .before .args .v) (c .before .fits .v) r) (r .bits-are)
+    let r = Unsigned.raised w32 2147483648 18446744073709551616 as-number refl (omega arith) (omega arith) (λ n. refl) (λ n. refl) (c .before .args .v) (c .before .fits .v) (rw (toZ-ofZ (c .before .fits .v)) at (c .if1 .left)) in
+    rw (Unsigned.sum-back w32 2147483648 18446744073709551616 as-number refl (omega arith) (omega arith) (λ n. refl) (λ n. refl) (c .before .args .v) (c .before .fits .v) r) (r .bits-are)
 
 pub signed-spec : {M : Type 1} → statement M
 signed-spec =

@@ -9,12 +9,12 @@ use lib.Seq.{drop-cons}
 use borrow.Author.Needs.{needs}
 use Rattle.protocol.proofs.Bytes.{low-length}
 use Rattle.protocol.specs.Encode.{lowFirst}
-use Rattle.writer.proofs.Over.{Laid, laid-none, laid-length, laid-one, laid-all}
+use Rattle.writer.proofs.Copying.{Copied, copied-none, copied-length, copied-one, copied-all}
 use Rattle.writer.proofs.slot.put_low.Statement.{statement}
 use Rattle.writer.proofs.slot.put_low.Tie as tie
 
 abbrev Inv-loop : tie.InvT-loop
-Inv-loop out₀ at width n left₀ i₀ out left i = Laid out₀ at (lowFirst width n) i out × (drop i (lowFirst width n) ≡ lowFirst (width - i) left)
+Inv-loop out₀ at width n left₀ i₀ out left i = Copied out₀ at (lowFirst width n) i out × (drop i (lowFirst width n) ≡ lowFirst (width - i) left)
 
 abbrev μ-loop : tie.MeasureT-loop
 μ-loop out₀ at width n left₀ i₀ out left i = width - i
@@ -35,7 +35,7 @@ room : (w n at : ℕ) (d : List ℕ) → at + w ≤ length d → at + length (lo
 room w n at d h = rw (low-length w n) h
 
 loop-holds : tie.Need-loop-holds Inv-loop μ-loop
-loop-holds c = (laid-none (c .args .out .now) (c .args .at) (lowFirst (c .args .width) (c .args .n)), ap (λ (k : ℕ). lowFirst k (c .args .n)) (sym (sub-zero (c .args .width))))
+loop-holds c = (copied-none (c .args .out .now) (c .args .at) (lowFirst (c .args .width) (c .args .n)), ap (λ (k : ℕ). lowFirst k (c .args .n)) (sym (sub-zero (c .args .width))))
 
 cast-out : tie.Need-cast-out Inv-loop μ-loop
 cast-out c = search needs
@@ -45,7 +45,7 @@ add-out c = search needs
 
 slice-write-out : tie.Need-slice-write-out Inv-loop μ-loop
 slice-write-out c =
-    omega (arith, laid-length (c .before .before .args .out .now) (c .before .before .args .at) (lowFirst (c .before .before .args .width) (c .before .before .args .n)) (c .before .loop .i) (c .before .loop .out) (c .before .loop .inv .0) (room (c .before .before .args .width) (c .before .before .args .n) (c .before .before .args .at) (c .before .before .args .out .now) (c .before .before .pre)))
+    omega (arith, copied-length (c .before .before .args .out .now) (c .before .before .args .at) (lowFirst (c .before .before .args .width) (c .before .before .args .n)) (c .before .loop .i) (c .before .loop .out) (c .before .loop .inv .0) (room (c .before .before .args .width) (c .before .before .args .n) (c .before .before .args .at) (c .before .before .args .out .now) (c .before .before .pre)))
 
 add-i : tie.Need-add-i Inv-loop μ-loop
 add-i c = search needs
@@ -58,13 +58,13 @@ loop-again c =
     let width : ℕ = c .before .before .args .width in
     let n : ℕ = c .before .before .args .n in
     let turn = next width n (c .before .loop .i) (c .before .loop .left) (c .before .loop .inv .1) (omega (arith, c .loop-test .taken)) in
-    (laid-one (c .before .before .args .out .now) (c .before .before .args .at) (lowFirst (c .before .before .args .width) (c .before .before .args .n)) (c .before .loop .i) (c .before .loop .out) _ (c .before .loop .inv .0) (room width n (c .before .before .args .at) (c .before .before .args .out .now) (c .before .before .pre)) (omega (arith, low-length width n, c .loop-test .taken)) (turn .0), turn .1)
+    (copied-one (c .before .before .args .out .now) (c .before .before .args .at) (lowFirst (c .before .before .args .width) (c .before .before .args .n)) (c .before .loop .i) (c .before .loop .out) _ (c .before .loop .inv .0) (room width n (c .before .before .args .at) (c .before .before .args .out .now) (c .before .before .pre)) (omega (arith, low-length width n, c .loop-test .taken)) (turn .0), turn .1)
 
 same-length : tie.Need-same-length Inv-loop μ-loop
-same-length c = laid-length (c .before .before .args .out .now) (c .before .before .args .at) (lowFirst (c .before .before .args .width) (c .before .before .args .n)) (c .before .loop .i) (c .before .loop .out) (c .before .loop .inv .0) (room (c .before .before .args .width) (c .before .before .args .n) (c .before .before .args .at) (c .before .before .args .out .now) (c .before .before .pre))
+same-length c = copied-length (c .before .before .args .out .now) (c .before .before .args .at) (lowFirst (c .before .before .args .width) (c .before .before .args .n)) (c .before .loop .i) (c .before .loop .out) (c .before .loop .inv .0) (room (c .before .before .args .width) (c .before .before .args .n) (c .before .before .args .at) (c .before .before .args .out .now) (c .before .before .pre))
 
 returns : tie.Need-returns Inv-loop μ-loop
-returns c = laid-all (c .before .before .args .out .now) (c .before .before .args .at) (lowFirst (c .before .before .args .width) (c .before .before .args .n)) (c .before .loop .i) (c .before .loop .out) (c .before .loop .inv .0) (omega (arith, low-length (c .before .before .args .width) (c .before .before .args .n), c .loop-test .left))
+returns c = copied-all (c .before .before .args .out .now) (c .before .before .args .at) (lowFirst (c .before .before .args .width) (c .before .before .args .n)) (c .before .loop .i) (c .before .loop .out) (c .before .loop .inv .0) (omega (arith, low-length (c .before .before .args .width) (c .before .before .args .n), c .loop-test .left))
 
 pub put-low-spec : {M : Type 1} → statement M
 put-low-spec =
