@@ -11,18 +11,20 @@ use table_cells::format_row;
 use table_cells::outcome_number;
 use table_cells::port_row;
 ghost use mathlib.Core.Path.{_≡_};
-ghost use Rattle.rules.specs.Offer.{cellsAfter, handCells, offerCells};
+ghost use Rattle.rules.specs.Answer.{outcome};
+ghost use Rattle.rules.specs.Offer.{cellsAfter, datasetByCells, offerByCells};
 ghost use Rattle.message_cells.specs.Row.{wayOf};
-ghost use Rattle.table.specs.Outcome.{emptied, emptyingSays, saidBy};
-ghost use Rattle.table.specs.Query.{formatCells, portCells};
-ghost use Rattle.table_cells.specs.Rows.{formatRow, handedRow, portRow, saidNumber};
+ghost use Rattle.table.specs.FormatAnswer.{formatByCells};
+ghost use Rattle.table.specs.OfferAnswer.{emptied, emptyAnswer};
+ghost use Rattle.table.specs.PortAnswer.{portByCells};
+ghost use Rattle.table_cells.specs.Rows.{datasetRow, formatRow, outcomeNumber, portRow};
 ghost use Rattle.capi.specs.Filled.{filledBy, filledWith};
 
 // Makes an empty table of 448 cells. Returns 0; another number of cells is 9 times 2 ^ 32, and
 // nothing changes.
 #[no_mangle]
 pub extern "C" fn castanetash_empty(table: &mut [u32]) -> u64
-    ensures { λ r. ⌜ (r ≡ saidNumber (emptyingSays (now (table .entry)))) × (now (table .exit) ≡ emptied (now (table .entry))) ⌝ }
+    ensures { λ r. ⌜ (r ≡ outcomeNumber (emptyAnswer (now (table .entry)))) × (now (table .exit) ≡ emptied (now (table .entry))) ⌝ }
 {
     outcome_number(empty(table))
 }
@@ -31,7 +33,7 @@ pub extern "C" fn castanetash_empty(table: &mut [u32]) -> u64
 // plus the place, and nothing changes.
 #[no_mangle]
 pub extern "C" fn castanetash_offer(table: &mut [u32], message: &[u8], way: u8) -> u64
-    ensures { λ r. ⌜ (r ≡ saidNumber (saidBy (offerCells (now (table .entry)) (record { way = wayOf way; bytes = now (message .entry) })))) × (now (table .exit) ≡ cellsAfter (now (table .entry)) (record { way = wayOf way; bytes = now (message .entry) })) ⌝ }
+    ensures { λ r. ⌜ (r ≡ outcomeNumber (outcome (offerByCells (now (table .entry)) (record { way = wayOf way; bytes = now (message .entry) })))) × (now (table .exit) ≡ cellsAfter (now (table .entry)) (record { way = wayOf way; bytes = now (message .entry) })) ⌝ }
 {
     outcome_number(offer(table, message, way_of(way)))
 }
@@ -46,7 +48,7 @@ pub extern "C" fn castanetash_dataset(
     number: usize,
     cells: &mut [u64],
 ) -> usize
-    ensures { λ r. ⌜ (r ≡ filledBy (handedRow (handCells (now (table .entry)) (record { way = wayOf way; bytes = now (message .entry) }) number)) (now (cells .entry))) × (now (cells .exit) ≡ filledWith (handedRow (handCells (now (table .entry)) (record { way = wayOf way; bytes = now (message .entry) }) number)) (now (cells .entry))) ⌝ }
+    ensures { λ r. ⌜ (r ≡ filledBy (datasetRow (datasetByCells (now (table .entry)) (record { way = wayOf way; bytes = now (message .entry) }) number)) (now (cells .entry))) × (now (cells .exit) ≡ filledWith (datasetRow (datasetByCells (now (table .entry)) (record { way = wayOf way; bytes = now (message .entry) }) number)) (now (cells .entry))) ⌝ }
 {
     let row = dataset_row(dataset(table, message, way_of(way), number));
     fill(cells, &row)
@@ -56,7 +58,7 @@ pub extern "C" fn castanetash_dataset(
 // none changes.
 #[no_mangle]
 pub extern "C" fn castanetash_port(table: &[u32], number: u8, cells: &mut [u64]) -> usize
-    ensures { λ r. ⌜ (r ≡ filledBy (portRow (portCells (now (table .entry)) number)) (now (cells .entry))) × (now (cells .exit) ≡ filledWith (portRow (portCells (now (table .entry)) number)) (now (cells .entry))) ⌝ }
+    ensures { λ r. ⌜ (r ≡ filledBy (portRow (portByCells (now (table .entry)) number)) (now (cells .entry))) × (now (cells .exit) ≡ filledWith (portRow (portByCells (now (table .entry)) number)) (now (cells .entry))) ⌝ }
 {
     let row = port_row(port(table, number));
     fill(cells, &row)
@@ -71,7 +73,7 @@ pub extern "C" fn castanetash_format(
     mode: u8,
     cells: &mut [u64],
 ) -> usize
-    ensures { λ r. ⌜ (r ≡ filledBy (formatRow (formatCells (now (table .entry)) number mode)) (now (cells .entry))) × (now (cells .exit) ≡ filledWith (formatRow (formatCells (now (table .entry)) number mode)) (now (cells .entry))) ⌝ }
+    ensures { λ r. ⌜ (r ≡ filledBy (formatRow (formatByCells (now (table .entry)) number mode)) (now (cells .entry))) × (now (cells .exit) ≡ filledWith (formatRow (formatByCells (now (table .entry)) number mode)) (now (cells .entry))) ⌝ }
 {
     let row = format_row(format(table, number, mode));
     fill(cells, &row)

@@ -6,7 +6,7 @@ use mathlib.Core.Path.{_≡_, sym, subst}
 use mathlib.Core.List.{List}
 use lib.ListN.{length, take, drop, length-take}
 use lib.Seq.{length-take-le}
-use Rattle.table.specs.LogBlock.{blockFits}
+use Rattle.table.specs.BlockAnswer.{blockFits}
 use Rattle.table.specs.declared.block.Block.{Block}
 use Rattle.table.specs.declared.block.Block.the-variants as Block'
 

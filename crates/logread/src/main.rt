@@ -4,6 +4,7 @@
 use libc::STDIN_FILENO;
 use libc::STDOUT_FILENO;
 use log::totals::put_ending;
+use rules::layout::TABLE_SIZE;
 use table::block::Block;
 use table::empty;
 use table::read_block;
@@ -175,7 +176,7 @@ fn print_log(table: &mut [u32], input: &mut [u8], out: &mut [u8]) {
 }
 
 fn main() {
-    let mut table = [0u32; 448];
+    let mut table = [0u32; TABLE_SIZE];
     let mut input = io::large_buffer();
     let mut out = io::large_buffer();
     empty(&mut table);

@@ -14,7 +14,7 @@ returns : tie.Need-returns
 returns c = search needs
 
 returns-2 : tie.Need-returns-2
-returns-2 c = 
+returns-2 c =
     let a = c .before .before .before .before .args in
     sym (dataset-9 (a .table .now) (sym (c .before .is-sound .ensures) ∙ c .if1 .left) (record { way = a .way; bytes = a .message .now }) (a .number))
 

@@ -22,7 +22,7 @@ same-length-2 : tie.Need-same-length-2
 same-length-2 c = search needs
 
 returns-2 : tie.Need-returns-2
-returns-2 c = 
+returns-2 c =
     let a = c .before .before .before .before .before .args in
     let unsound = sym (c .before .is-sound .ensures) ∙ c .if1 .left in
     let e : Entry = record { way = a .way; bytes = a .message .now } in

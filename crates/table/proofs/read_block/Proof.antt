@@ -24,7 +24,7 @@ same-length-3 : tie.Need-same-length-3
 same-length-3 c = search needs
 
 returns-2 : tie.Need-returns-2
-returns-2 c = 
+returns-2 c =
     let a = c .before .before .before .before .before .before .args in
     let k = unsound-block (runOf (a .table .now) (a .lines) (a .refused) (a .input .now)) (a .out .now) (sym (c .before .is-sound .ensures) ∙ c .if1 .left) in
     (sym (k .0), sym (k .1), sym (k .2), tt)

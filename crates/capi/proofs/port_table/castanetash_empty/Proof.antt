@@ -1,5 +1,5 @@
 use mathlib.Core.Path.{_∙_, ap}
-use Rattle.table_cells.specs.Rows.{saidNumber}
+use Rattle.table_cells.specs.Rows.{outcomeNumber}
 use borrow.Author.Needs.{needs}
 use Rattle.capi.proofs.port_table.castanetash_empty.Statement.{statement}
 use Rattle.capi.proofs.port_table.castanetash_empty.Tie as tie
@@ -14,7 +14,7 @@ same-length : tie.Need-same-length
 same-length c = search needs
 
 returns : tie.Need-returns
-returns c = (c .outcome-number .ensures ∙ ap saidNumber (c .before .before .before .empty .ensures .0), c .before .before .before .empty .ensures .1)
+returns c = (c .outcome-number .ensures ∙ ap outcomeNumber (c .before .before .before .empty .ensures .0), c .before .before .before .empty .ensures .1)
 
 pub castanetash-empty-spec : {M : Type 1} → statement M
 castanetash-empty-spec =

@@ -1,8 +1,8 @@
 use mathlib.Core.Path.{_∙_, ap}
 use Rattle.protocol.specs.declared.Way.{Way}
-use Rattle.rules.specs.Offer.{offerCells, cellsAfter}
-use Rattle.table.specs.Outcome.{saidBy}
-use Rattle.table_cells.specs.Rows.{saidNumber}
+use Rattle.rules.specs.Offer.{offerByCells, cellsAfter}
+use Rattle.rules.specs.Answer.{outcome}
+use Rattle.table_cells.specs.Rows.{outcomeNumber}
 use borrow.Author.Needs.{needs}
 use Rattle.capi.proofs.port_table.castanetash_offer.Statement.{statement}
 use Rattle.capi.proofs.port_table.castanetash_offer.Tie as tie
@@ -21,7 +21,7 @@ same-length c = search needs
 
 returns : tie.Need-returns
 returns c =
-    (c .outcome-number .ensures ∙ ap saidNumber (c .before .before .before .offer .ensures .0 ∙ ap (λ (w : Way). saidBy (offerCells (c .before .before .before .before .before .before .before .before .args .table .now) (record { way = w; bytes = c .before .before .before .before .before .before .before .before .args .message .now }))) (c .before .before .before .before .way-of .ensures)), c .before .before .before .offer .ensures .1 ∙ ap (λ (w : Way). cellsAfter (c .before .before .before .before .before .before .before .before .args .table .now) (record { way = w; bytes = c .before .before .before .before .before .before .before .before .args .message .now })) (c .before .before .before .before .way-of .ensures))
+    (c .outcome-number .ensures ∙ ap outcomeNumber (c .before .before .before .offer .ensures .0 ∙ ap (λ (w : Way). outcome (offerByCells (c .before .before .before .before .before .before .before .before .args .table .now) (record { way = w; bytes = c .before .before .before .before .before .before .before .before .args .message .now }))) (c .before .before .before .before .way-of .ensures)), c .before .before .before .offer .ensures .1 ∙ ap (λ (w : Way). cellsAfter (c .before .before .before .before .before .before .before .before .args .table .now) (record { way = w; bytes = c .before .before .before .before .before .before .before .before .args .message .now })) (c .before .before .before .before .way-of .ensures))
 
 pub castanetash-offer-spec : {M : Type 1} → statement M
 castanetash-offer-spec =

@@ -10,7 +10,7 @@ enum-known-e : tie.Need-enum-known-e
 enum-known-e c = search needs
 
 tell-requires : tie.Need-tell-requires
-tell-requires c κs = 
+tell-requires c κs =
     let a = c .before .before .before .before .before .args in
     let cells = a .table .now in
     (c .before .before .before .before .before .pre .0, tell-ready cells (a .count) (a .e) (c .before .before .before .before .before .pre .2) _ _ (c .before .before .e .given .1), change-ready (a .e) (c .before .before .before .before .before .pre .1) _ _ (c .before .before .e .given .1))
@@ -19,7 +19,7 @@ enum-known-e-2 : tie.Need-enum-known-e-2
 enum-known-e-2 c = search needs
 
 attach-requires : tie.Need-attach-requires
-attach-requires c κs = 
+attach-requires c κs =
     let a = c .before .before .before .before .before .args in
     let cells = a .table .now in
     (c .before .before .before .before .before .pre .0, attach-ready cells (a .count) (a .e) (c .before .before .before .before .before .pre .2) _ _ (c .before .before .e2 .given .1))
@@ -28,7 +28,7 @@ enum-known-e-3 : tie.Need-enum-known-e-3
 enum-known-e-3 c = search needs
 
 attach-virtual-requires : tie.Need-attach-virtual-requires
-attach-virtual-requires c κs = 
+attach-virtual-requires c κs =
     let a = c .before .before .before .before .before .args in
     let cells = a .table .now in
     let k = virtual-ready cells (a .count) (a .e) (c .before .before .before .before .before .pre .2) _ _ _ _ (c .before .before .e3 .given .1) in
@@ -38,7 +38,7 @@ enum-known-e-4 : tie.Need-enum-known-e-4
 enum-known-e-4 c = search needs
 
 detach-requires : tie.Need-detach-requires
-detach-requires c κs = 
+detach-requires c κs =
     let a = c .before .before .before .before .before .args in
     let cells = a .table .now in
     (c .before .before .before .before .before .pre .0, detach-ready cells (a .count) (a .e) (c .before .before .before .before .before .pre .2) _ (c .before .before .e4 .given .1))
@@ -53,7 +53,7 @@ same-length : tie.Need-same-length
 same-length c = search needs
 
 returns : tie.Need-returns
-returns c = 
+returns c =
     let a = c .before .before .before .before .before .before .before .before .args in
     let cells = a .table .now in
     changed-as cells (c .before .before .tell .last .0) (a .e) _ (c .before .before .before .before .before .e .given .1) (c .before .before .tell .ensures)
@@ -62,7 +62,7 @@ same-length-2 : tie.Need-same-length-2
 same-length-2 c = search needs
 
 returns-2 : tie.Need-returns-2
-returns-2 c = 
+returns-2 c =
     let a = c .before .before .before .before .before .before .before .before .args in
     let cells = a .table .now in
     changed-as cells (c .before .before .attach .last .0) (a .e) _ (c .before .before .before .before .before .e2 .given .1) (c .before .before .attach .ensures)
@@ -71,7 +71,7 @@ same-length-3 : tie.Need-same-length-3
 same-length-3 c = search needs
 
 returns-3 : tie.Need-returns-3
-returns-3 c = 
+returns-3 c =
     let a = c .before .before .before .before .before .before .before .before .args in
     let cells = a .table .now in
     changed-as cells (c .before .before .attach-virtual .last .0) (a .e) _ (c .before .before .before .before .before .e3 .given .1) (c .before .before .attach-virtual .ensures)
@@ -80,7 +80,7 @@ same-length-4 : tie.Need-same-length-4
 same-length-4 c = search needs
 
 returns-4 : tie.Need-returns-4
-returns-4 c = 
+returns-4 c =
     let a = c .before .before .before .before .before .before .before .before .args in
     let cells = a .table .now in
     changed-as cells (c .before .before .detach .last .0) (a .e) _ (c .before .before .before .before .before .e4 .given .1) (c .before .before .detach .ensures)
@@ -89,13 +89,13 @@ same-length-5 : tie.Need-same-length-5
 same-length-5 c = search needs
 
 returns-5 : tie.Need-returns-5
-returns-5 c = 
+returns-5 c =
     let a = c .before .before .before .before .before .before .before .args in
     let cells = a .table .now in
     changed-as cells (c .before .before .clear .last .0) (a .e) _ (c .before .before .before .before .enum-told .given .1) (c .before .before .clear .ensures ∙ sym (empty-is cells))
 
 returns-6 : tie.Need-returns-6
-returns-6 c = 
+returns-6 c =
     let a = c .before .before .args in
     let cells = a .table .now in
     unchanged cells (a .e) (c .before .before .pre .0) (c .match .keys6)

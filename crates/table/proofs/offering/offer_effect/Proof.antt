@@ -13,7 +13,7 @@ same-length : tie.Need-same-length
 same-length c = search needs
 
 returns : tie.Need-returns
-returns c = 
+returns c =
     let a = c .before .before .before .before .args in
     let cells = a .table .now in
     let k = refused-by (c .before .judged .result) _ (accepted (a .e)) (c .before .judged .ensures) (c .if1 .taken) in
@@ -26,7 +26,7 @@ same-length-2 : tie.Need-same-length-2
 same-length-2 c = search needs
 
 returns-2 : tie.Need-returns-2
-returns-2 c = 
+returns-2 c =
     let a = c .before .before .before .before .before .before .before .before .args in
     let cells = a .table .now in
     let k = accepted-by (c .before .before .before .before .before .judged .result) _ (accepted (a .e)) (c .before .before .before .before .before .judged .ensures) (c .before .before .before .before .if1 .left) in

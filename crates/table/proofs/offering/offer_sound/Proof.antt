@@ -21,7 +21,7 @@ tail-requires : tie.Need-tail-requires
 tail-requires c κs = search needs
 
 offer-effect-requires : tie.Need-offer-effect-requires
-offer-effect-requires c κs = 
+offer-effect-requires c κs =
     let a = c .before .before .before .before .before .before .before .before .before .args in
     let cells = a .table .now in
     (c .before .before .before .before .before .before .before .before .before .pre, fits-by (a .message .now) (a .way) _ (c .before .effect-of .result) (all-bytes (a .message .now) (λ (k : ℕ). omega (arith, c .before .before .before .before .before .before .before .shared-slice-known .given k))) (sym (c .before .before .before .before .before .before .read .ensures) ∙ ap answerOf (c .before .before .before .before .m .given .1)) (c .before .effect-of .ensures))
@@ -33,14 +33,14 @@ same-length : tie.Need-same-length
 same-length c = search needs
 
 returns : tie.Need-returns
-returns c = 
+returns c =
     let a = c .before .before .before .before .before .before .before .before .before .before .before .before .args in
     let cells = a .table .now in
     let k = offered-message cells (a .message .now) (a .way) (c .before .before .before .before .before .before .before .before .before .before .before .before .pre) _ (c .before .before .before .before .effect-of .result) _ (sym (c .before .before .before .before .before .before .before .before .before .read .ensures) ∙ ap answerOf (c .before .before .before .before .before .before .before .m .given .1)) (c .before .before .before .before .effect-of .ensures) (c .before .before .before .tail .ensures) in
     (c .before .before .offer-effect .ensures .0 ∙ sym (ap outcome k), c .before .before .offer-effect .ensures .1 ∙ sym (cells-by cells (a .message .now) (a .way) (c .before .before .before .before .before .before .before .before .before .before .before .before .pre) _ k))
 
 returns-2 : tie.Need-returns-2
-returns-2 c = 
+returns-2 c =
     let a = c .before .before .before .before .before .before .args in
     let cells = a .table .now in
     let k = offered-unread cells (a .message .now) (a .way) (c .before .before .before .before .before .before .pre) _ _ (sym (c .before .before .before .read .ensures) ∙ ap answerOf (c .before .number .given .1)) in
