@@ -10,6 +10,7 @@ use borrow.Author.Tests.{lt-ltb, le-ltb}
 use lib.Dec.{eqb}
 use lib.Ieee.{binary32, ofBits, toBits}
 use lib.Ieee.Bits.{toBits-ofBits}
+use Rattle.protocol.specs.Form.{mostDatasets}
 use Rattle.protocol.specs.Number.{isFinite}
 use Rattle.protocol.proofs.Floats.{not-nan}
 use Rattle.protocol.proofs.Tests.{which, and-left}
@@ -44,9 +45,9 @@ module _ (port mode state : ℕ) (f : Format) (bytes : List ℕ) where
         ap (λ (x : Answer Dataset). followedBy x (numbersFrom most dataset (suc k))) (one-whole k (omega arith))
         ∙ ap (withNumber (numberAt (widthOf (f .kind)) bytes k)) (wholes most (suc k) n (omega arith) (omega arith))
 
-    pub whole-line : 1 ≤ f .datasets → f .datasets ≤ 16 → valueLine dataset ≡ values port mode state (numbersAt (widthOf (f .kind)) bytes 0 (f .datasets))
+    pub whole-line : 1 ≤ f .datasets → f .datasets ≤ mostDatasets → valueLine dataset ≡ values port mode state (numbersAt (widthOf (f .kind)) bytes 0 (f .datasets))
     unfolding valueLine
-    whole-line some-there few = λ i. withNumbers (one-whole 0 some-there i) (wholes 16 0 (f .datasets) few (omega arith) i)
+    whole-line some-there few = λ i. withNumbers (one-whole 0 some-there i) (wholes mostDatasets 0 (f .datasets) few (omega arith) i)
 
   -- ---- floats
 
@@ -92,15 +93,15 @@ module _ (port mode state : ℕ) (f : Format) (bytes : List ℕ) where
     first-finite : (n : ℕ) → finiteFrom bytes 0 (suc n) ≡ true → isFinite (ofBits binary32 (numberAt 4 bytes 0)) ≡ true
     first-finite n e = and-left (isFinite (ofBits binary32 (numberAt 4 bytes 0))) (finiteFrom bytes 1 n) e
 
-    pub float-line : 1 ≤ f .datasets → f .datasets ≤ 16 → finiteFrom bytes 0 (f .datasets) ≡ true → valueLine dataset ≡ values port mode state (numbersAt 4 bytes 0 (f .datasets))
+    pub float-line : 1 ≤ f .datasets → f .datasets ≤ mostDatasets → finiteFrom bytes 0 (f .datasets) ≡ true → valueLine dataset ≡ values port mode state (numbersAt 4 bytes 0 (f .datasets))
     unfolding valueLine
     float-line some-there few e =
         let n : ℕ = f .datasets - 1 in
         let count : f .datasets ≡ suc n = omega arith in
         let first : dataset 0 ≡ stamped port mode state (float (ofBits binary32 (numberAt 4 bytes 0))) = finite-one 0 some-there (first-finite n (sym (ap (finiteFrom bytes 0) count) ∙ e)) in
-        let all : numbersFrom 16 dataset 0 ≡ some (numbersAt 4 bytes 0 (f .datasets)) = floats 16 0 (f .datasets) few (omega arith) ∙ ap (λ (b : Bool). cond b (some (numbersAt 4 bytes 0 (f .datasets))) none) e in
+        let all : numbersFrom mostDatasets dataset 0 ≡ some (numbersAt 4 bytes 0 (f .datasets)) = floats mostDatasets 0 (f .datasets) few (omega arith) ∙ ap (λ (b : Bool). cond b (some (numbersAt 4 bytes 0 (f .datasets))) none) e in
         λ i. withNumbers (first i) (all i)
 
-    pub line-18 : f .datasets ≤ 16 → finiteFrom bytes 0 (f .datasets) ≡ false → valueLine dataset ≡ refused 18
+    pub line-18 : f .datasets ≤ mostDatasets → finiteFrom bytes 0 (f .datasets) ≡ false → valueLine dataset ≡ refused 18
     unfolding valueLine
-    line-18 few e = ap (withNumbers (dataset 0)) (floats 16 0 (f .datasets) few (omega arith) ∙ ap (λ (b : Bool). cond b (some (numbersAt 4 bytes 0 (f .datasets))) none) e)
+    line-18 few e = ap (withNumbers (dataset 0)) (floats mostDatasets 0 (f .datasets) few (omega arith) ∙ ap (λ (b : Bool). cond b (some (numbersAt 4 bytes 0 (f .datasets))) none) e)

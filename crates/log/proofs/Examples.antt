@@ -1,4 +1,4 @@
--- Document 01's example of a log, by computing.
+-- The examples of logs, by computing.
 use mathlib.Core.Path.{refl}
 use Rattle.protocol.specs.Decode.{decode, decodeWay, decodeType, decodeForm}
 use Rattle.protocol.specs.Form.{layout}
@@ -17,11 +17,15 @@ use Rattle.log.specs.Decimal.{decimal}
 use Rattle.log.specs.Record.{messageIn, malformed}
 use Rattle.log.specs.Line.{valueLine, recordLine, cellsAfterRecord}
 use Rattle.log.specs.Output.{allLines, totalText, output}
-use Rattle.log.specs.Examples.{SixRecords, EmptyInput}
+use Rattle.log.specs.Examples.{SixRecords, OtherRecords, EmptyInput}
 
 pub six-records : SixRecords
 unfolding decode decodeWay decodeType decodeForm layout littleEndian types hubAttachedIo portModeInformation effectOf valueLookup judge datasetOf datasetAnswer learn apply wellFormed recordCells cellsOf recordAt tableAt sound emptyCells judgeEntry datasetEntry offerByCells cellsAfter datasetByCells decimal messageIn malformed valueLine recordLine cellsAfterRecord allLines totalText output
 six-records = refl
+
+pub other-records : OtherRecords
+unfolding decode decodeWay decodeType decodeForm layout littleEndian types hubAttachedIo portModeInformation effectOf valueLookup judge datasetOf datasetAnswer learn apply wellFormed recordCells cellsOf recordAt tableAt sound emptyCells judgeEntry datasetEntry offerByCells cellsAfter datasetByCells decimal messageIn malformed valueLine recordLine cellsAfterRecord allLines totalText output
+other-records = refl
 
 pub empty-input : EmptyInput
 unfolding decimal allLines totalText output

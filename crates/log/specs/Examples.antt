@@ -1,13 +1,16 @@
--- Document 01's six records print exactly its seven lines.
+-- Document 01's six records print exactly its seven lines; and a log with a malformed record and a short last piece.
 use Prim.Native.Nat.{ℕ, _-_}
 use mathlib.Core.Path.{_≡_}
 use mathlib.Core.List.{List, [], _∷_, _++_}
 use lib.ListN.{length, replicate}
 use Rattle.log.specs.Output.{output}
 
--- a record at time 0 of a message with its direction
+-- a record at time 0, with its direction and the byte after it, which is 0 in a good record
+abbrev recordWith : ℕ → ℕ → List ℕ → List ℕ
+recordWith way next message = (0 ∷ 0 ∷ 0 ∷ 0 ∷ way ∷ next ∷ 0 ∷ 0 ∷ message) ++ replicate (128 - length message) 0
+
 abbrev recordOf : ℕ → List ℕ → List ℕ
-recordOf way message = (0 ∷ 0 ∷ 0 ∷ 0 ∷ way ∷ 0 ∷ 0 ∷ 0 ∷ message) ++ replicate (128 - length message) 0
+recordOf way message = recordWith way 0 message
 
 abbrev sixRecords : List ℕ
 sixRecords =
@@ -31,6 +34,33 @@ sevenLines =
 
 abbrev pub SixRecords : Type 0
 SixRecords = output 128 sixRecords ≡ sevenLines
+
+-- a hub that still reports in mode 2 after mode 3 was asked for; a malformed record, which is not followed: its 47 would
+-- make mode 0 the port's; two datasets; and a last piece of three bytes
+abbrev otherRecords : List ℕ
+otherRecords =
+    recordOf 1 (0x0F ∷ 0x00 ∷ 0x04 ∷ 0x07 ∷ 0x01 ∷ 0x26 ∷ 0x00 ∷ 0x00 ∷ 0x00 ∷ 0x00 ∷ 0x10 ∷ 0x00 ∷ 0x00 ∷ 0x00 ∷ 0x10 ∷ [])
+    ++ recordOf 1 (0x0A ∷ 0x00 ∷ 0x44 ∷ 0x07 ∷ 0x02 ∷ 0x80 ∷ 0x02 ∷ 0x01 ∷ 0x04 ∷ 0x00 ∷ [])
+    ++ recordOf 1 (0x0A ∷ 0x00 ∷ 0x47 ∷ 0x07 ∷ 0x02 ∷ 0x01 ∷ 0x00 ∷ 0x00 ∷ 0x00 ∷ 0x01 ∷ [])
+    ++ recordOf 0 (0x0A ∷ 0x00 ∷ 0x41 ∷ 0x07 ∷ 0x03 ∷ 0x01 ∷ 0x00 ∷ 0x00 ∷ 0x00 ∷ 0x01 ∷ [])
+    ++ recordWith 1 9 (0x0A ∷ 0x00 ∷ 0x47 ∷ 0x07 ∷ 0x00 ∷ 0x01 ∷ 0x00 ∷ 0x00 ∷ 0x00 ∷ 0x01 ∷ [])
+    ++ recordOf 1 (0x08 ∷ 0x00 ∷ 0x45 ∷ 0x07 ∷ 0x05 ∷ 0x00 ∷ 0x02 ∷ 0x01 ∷ [])
+    ++ (0x00 ∷ 0x00 ∷ 0x00 ∷ [])
+
+-- "1 0", "2 0", "3 0", "4 0", "5 19", "6 0 7 2 1 5 258", "7 19", "total 7 refused 2"
+abbrev otherLines : List ℕ
+otherLines =
+    49 ∷ 32 ∷ 48 ∷ 10
+    ∷ 50 ∷ 32 ∷ 48 ∷ 10
+    ∷ 51 ∷ 32 ∷ 48 ∷ 10
+    ∷ 52 ∷ 32 ∷ 48 ∷ 10
+    ∷ 53 ∷ 32 ∷ 49 ∷ 57 ∷ 10
+    ∷ 54 ∷ 32 ∷ 48 ∷ 32 ∷ 55 ∷ 32 ∷ 50 ∷ 32 ∷ 49 ∷ 32 ∷ 53 ∷ 32 ∷ 50 ∷ 53 ∷ 56 ∷ 10
+    ∷ 55 ∷ 32 ∷ 49 ∷ 57 ∷ 10
+    ∷ 116 ∷ 111 ∷ 116 ∷ 97 ∷ 108 ∷ 32 ∷ 55 ∷ 32 ∷ 114 ∷ 101 ∷ 102 ∷ 117 ∷ 115 ∷ 101 ∷ 100 ∷ 32 ∷ 50 ∷ 10 ∷ []
+
+abbrev pub OtherRecords : Type 0
+OtherRecords = output 128 otherRecords ≡ otherLines
 
 -- "total 0 refused 0"
 abbrev pub EmptyInput : Type 0

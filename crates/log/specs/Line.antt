@@ -5,6 +5,7 @@ use mathlib.Core.List.{List, [], _∷_}
 use mathlib.Core.Option.{Option, none, some}
 use lib.Dec.{eqb}
 use lib.Ieee.{binary32, toBits}
+use Rattle.protocol.specs.Form.{mostDatasets}
 use Rattle.rules.specs.declared.Effect.{Effect}
 use Rattle.rules.specs.declared.Effect.the-variants as Effect'
 use Rattle.rules.specs.Answer as Answer
@@ -46,9 +47,8 @@ withNumbers a none = refused 18
 withNumbers (Answer.refused n place) (some ns) = refused n
 withNumbers (Answer.accepted d) (some ns) = values (d .port) (d .mode) (d .state) ns
 
--- a format has at most sixteen datasets
 unfoldable pub valueLine : (ℕ → Answer Dataset) → Line
-valueLine dataset = withNumbers (dataset 0) (numbersFrom 16 dataset 0)
+valueLine dataset = withNumbers (dataset 0) (numbersFrom mostDatasets dataset 0)
 
 -- ---- the line of a record
 

@@ -216,9 +216,22 @@ selector = byte any
 abbrev port : Field
 port = byte any
 
+-- the greatest mode, notify and kind, and the most datasets of a value format: a port table keeps such numbers too
+abbrev pub lastMode : ℕ
+lastMode = 15
+
+abbrev pub lastNotify : ℕ
+lastNotify = 1
+
+abbrev pub mostDatasets : ℕ
+mostDatasets = 16
+
+abbrev pub lastKind : ℕ
+lastKind = 3
+
 -- Mode is 0-15 everywhere
 abbrev mode : Field
-mode = byte (upTo 15)
+mode = byte (upTo lastMode)
 
 -- 22: 0-5, 7, 8, 80
 unfoldable pub informationType : Rule
@@ -248,7 +261,7 @@ endingIn fs r = record { fields = fs; rest = r }
 
 -- 41 and 47: port, mode, delta u32, notify 0 or 1
 abbrev inputSetup : List Field
-inputSetup = port ∷ mode ∷ number 4 any ∷ byte (upTo 1) ∷ []
+inputSetup = port ∷ mode ∷ number 4 any ∷ byte (upTo lastNotify) ∷ []
 
 unfoldable pub layout : Form → Layout
 layout propertyCommand = only (selector ∷ selector ∷ [])
@@ -279,7 +292,7 @@ layout modeRange = only (port ∷ mode ∷ selector ∷ float ∷ float ∷ [])
 layout modeMapping = only (port ∷ mode ∷ selector ∷ number 2 any ∷ [])
 layout modeBias = only (port ∷ mode ∷ selector ∷ byte (upTo 100) ∷ [])
 layout modeCapabilities = only (port ∷ mode ∷ selector ∷ highFirst 6 ∷ [])
-layout valueFormat = only (port ∷ mode ∷ selector ∷ byte (between 1 16) ∷ byte (upTo 3) ∷ byte any ∷ byte any ∷ [])
+layout valueFormat = only (port ∷ mode ∷ selector ∷ byte (between 1 mostDatasets) ∷ byte (upTo lastKind) ∷ byte any ∷ byte any ∷ [])
 layout portValue = endingIn (port ∷ []) (openRun 1 123)
 layout inputFormat = only inputSetup
 layout virtualDisconnect = only (selector ∷ port ∷ [])

@@ -56,7 +56,7 @@ pub wired-remove : (p : ℕ) (t : Table) (q : ℕ) → wiredIn (remove p t) q �
 wired-remove p t q = ap wiring? (view-remove p t q) ∙ cond-ap wiring? (eqb p q) none (viewOfTable t q)
 
 pub wired-insert : (new : Record) (t : Table) → fullTable t ≡ false → viewOfTable t (new .port) ≡ none → (q : ℕ) → wiredIn (insert new t) q ≡ put (new .port) (some (new .facts .wiring)) (wiredIn t) q
-wired-insert new t refusalIfFull fresh q = ap wiring? (view-insert new t q refusalIfFull fresh) ∙ cond-ap wiring? (eqb (new .port) q) (some (new .facts)) (viewOfTable t q)
+wired-insert new t room fresh q = ap wiring? (view-insert new t q room fresh) ∙ cond-ap wiring? (eqb (new .port) q) (some (new .facts)) (viewOfTable t q)
 
 -- a port that is known stays so when another's wiring is replaced
 put-known : (p : ℕ) (y z : Wiring) (w : Wired) (q : ℕ) → w q ≡ some z → (k : Wiring) × (put p (some y) w q ≡ some k)
@@ -90,10 +90,10 @@ sound-keep p g t s same fits = record {
 }
 
 pub sound-attach : (new : Record) (t : Table) → Sound t → fullTable t ≡ false → viewOfTable t (new .port) ≡ none → new .facts .wiring ≡ Unjoined → Fit (new .port) (new .facts) → Sound (insert new t)
-sound-attach new t s refusalIfFull fresh plain good = record {
-  loose = loose-insert new t refusalIfFull fresh (s .loose) good;
+sound-attach new t s room fresh plain good = record {
+  loose = loose-insert new t room fresh (s .loose) good;
   pairs =
-      pairs-ext (put (new .port) (some (new .facts .wiring)) (wiredIn t)) (wiredIn (insert new t)) (λ q. sym (wired-insert new t refusalIfFull fresh q))
+      pairs-ext (put (new .port) (some (new .facts .wiring)) (wiredIn t)) (wiredIn (insert new t)) (λ q. sym (wired-insert new t room fresh q))
       (pairs-loose (wiredIn t) (s .pairs) (new .port) (inl (ap wiring? fresh)) (some (new .facts .wiring)) (inr (ap some plain)));
 }
 
@@ -137,7 +137,7 @@ unwired (some f) e = let z : _≡_ {A = ℕ} 0 1 = cc in absurd (omega arith)
 
 pub sound-virtual : (t : Table) → Sound t → (p d a b : ℕ) → fullTable t ≡ false → viewOfTable t p ≡ none → wiredIn t a ≡ some Unjoined → wiredIn t b ≡ some Unjoined → (a ≡ b → ⊥)
     → Fit p (bare d (Virtual a b)) → Sound (insert (newRecord p d (Virtual a b)) (change b (wired (Joined p)) (change a (wired (Joined p)) t)))
-sound-virtual t s p d a b refusalIfFull fresh one two ab good =
+sound-virtual t s p d a b room fresh one two ab good =
     let u : Table = change b (wired (Joined p)) (change a (wired (Joined p)) t) in
     let w : Wired = wiredIn t in
     let inner : (q : ℕ) → wiredIn u q ≡ put b (some (Joined p)) (put a (some (Joined p)) w) q = wired-members t a b (Joined p) Unjoined Unjoined one two in
@@ -147,11 +147,11 @@ sound-virtual t s p d a b refusalIfFull fresh one two ab good =
     unwired (viewOfTable u p)
     (inner p ∙ put-other b (some (Joined p)) (put a (some (Joined p)) w) p (λ (e : b ≡ p). pb (sym e)) ∙ put-other a (some (Joined p)) w p (λ (e : a ≡ p). pa (sym e)) ∙ ap wiring? fresh)
     in
-    let refusalIfFull′ : fullTable u ≡ false = full-change b (wired (Joined p)) (change a (wired (Joined p)) t) ∙ full-change a (wired (Joined p)) t ∙ refusalIfFull in
+    let room′ : fullTable u ≡ false = full-change b (wired (Joined p)) (change a (wired (Joined p)) t) ∙ full-change a (wired (Joined p)) t ∙ room in
     record {
-      loose = loose-insert (newRecord p d (Virtual a b)) u refusalIfFull′ still (loose-members t a b (Joined p) (s .loose)) good;
+      loose = loose-insert (newRecord p d (Virtual a b)) u room′ still (loose-members t a b (Joined p) (s .loose)) good;
       pairs =
           pairs-ext (three p a b (some (Virtual a b)) (some (Joined p)) w) (wiredIn (insert (newRecord p d (Virtual a b)) u))
-          (λ q. sym (wired-insert (newRecord p d (Virtual a b)) u refusalIfFull′ still q ∙ put-cong p (some (Virtual a b)) (wiredIn u) (put b (some (Joined p)) (put a (some (Joined p)) w)) inner q))
+          (λ q. sym (wired-insert (newRecord p d (Virtual a b)) u room′ still q ∙ put-cong p (some (Virtual a b)) (wiredIn u) (put b (some (Joined p)) (put a (some (Joined p)) w)) inner q))
           (pairs-virtual w (s .pairs) p a b (ap wiring? fresh) one two ab);
     }

@@ -10,7 +10,7 @@ use mathlib.Core.Option.{Option, none, some}
 use borrow.Author.Tests.{ltb-true, ltb-false, leb-true, eqb-true, eqb-false}
 use lib.Dec.{eqb, leb, ltb}
 use lib.ListN.{length, getD, take}
-use Rattle.protocol.specs.Form.{upFrom}
+use Rattle.protocol.specs.Form.{upFrom, mostDatasets, lastKind}
 use Rattle.protocol.proofs.Tests.{which, and-left, and-right}
 use Rattle.rules.specs.Layout.{modeCount, stride}
 use Rattle.rules.specs.Facts.{Setup, Format, Wiring, Unjoined, Joined, Virtual, Settings, Facts}
@@ -37,10 +37,10 @@ bytes-at (suc n) h = refl
 format-back : (f : Option Format) → formatFits f ≡ true → formatAt (formatCell f) ≡ f
 format-back none e = refl
 format-back (some f) e =
-    let passed = five-passed (leb 1 (f .datasets)) (leb (f .datasets) 16) (leb (f .kind) 3) (ltb (f .figures) 256) (ltb (f .decimals) 256) e in
+    let passed = five-passed (leb 1 (f .datasets)) (leb (f .datasets) mostDatasets) (leb (f .kind) lastKind) (ltb (f .figures) 256) (ltb (f .decimals) 256) e in
     let low : 1 ≤ f .datasets = leb-true 1 (f .datasets) (passed .0) in
-    let d : f .datasets ≤ 16 = leb-true (f .datasets) 16 (passed .1) in
-    let k : f .kind ≤ 3 = leb-true (f .kind) 3 (passed .2) in
+    let d : f .datasets ≤ mostDatasets = leb-true (f .datasets) mostDatasets (passed .1) in
+    let k : f .kind ≤ lastKind = leb-true (f .kind) lastKind (passed .2) in
     let g : f .figures < 256 = ltb-true (f .figures) 256 (passed .3) in
     let n : ℕ = formatCell (some f) in
     let first : n % 256 ≡ f .datasets = omega arith in

@@ -32,10 +32,10 @@ full-used [] e = refl
 full-used (none ∷ t) e = let z : _≡_ {A = ℕ} 0 1 = cc in absurd (omega arith)
 full-used (some r ∷ t) e = ap suc (full-used t e)
 
-refusalIfFull-used : (t : Table) → fullTable t ≡ false → suc (used t) ≤ length t
-refusalIfFull-used [] e = let z : _≡_ {A = ℕ} 0 1 = cc in absurd (omega arith)
-refusalIfFull-used (none ∷ t) e = omega (arith, used-le t)
-refusalIfFull-used (some r ∷ t) e = omega (arith, refusalIfFull-used t e)
+room-used : (t : Table) → fullTable t ≡ false → suc (used t) ≤ length t
+room-used [] e = let z : _≡_ {A = ℕ} 0 1 = cc in absurd (omega arith)
+room-used (none ∷ t) e = omega (arith, used-le t)
+room-used (some r ∷ t) e = omega (arith, room-used t e)
 
 -- a record counts once, where its port is below the number
 record-counts : (r : Record) (t : Table) → known (viewOfTable t (r .port)) ≡ false → (n : ℕ) → presentBelow n (viewOfTable (some r ∷ t)) ≡ oneIf (ltb (r .port) n) + presentBelow n (viewOfTable t)
@@ -82,5 +82,5 @@ same-full t s =
     let total : presentBelow portCount (viewOfTable t) ≡ used t = counted t (s .loose .distinct) (λ p e. let k = known-some (viewOfTable t p) e in s .loose .fit p (k .0) (k .1) .small) in
     ⊎-elim
     (λ (e : fullTable t ≡ true). e ∙ sym (ap (leb places) total ∙ le-leb places (used t) (omega (arith, full-used t e, s .loose .size))))
-    (λ (e : fullTable t ≡ false). e ∙ sym (ap (leb places) total ∙ lt-leb places (used t) (omega (arith, refusalIfFull-used t e, s .loose .size))))
+    (λ (e : fullTable t ≡ false). e ∙ sym (ap (leb places) total ∙ lt-leb places (used t) (omega (arith, room-used t e, s .loose .size))))
     (which (fullTable t))

@@ -86,4 +86,4 @@ pub core-remove : (p : ℕ) (t : Table) (q : ℕ) → mapFacts unwire (viewOfTab
 core-remove p t q = ap (mapFacts unwire) (view-remove p t q) ∙ cond-ap (mapFacts unwire) (eqb p q) none (viewOfTable t q)
 
 pub core-insert : (new : Record) (t : Table) → fullTable t ≡ false → viewOfTable t (new .port) ≡ none → (q : ℕ) → mapFacts unwire (viewOfTable (insert new t) q) ≡ cond (eqb (new .port) q) (some (unwire (new .facts))) (mapFacts unwire (viewOfTable t q))
-core-insert new t refusalIfFull fresh q = ap (mapFacts unwire) (view-insert new t q refusalIfFull fresh) ∙ cond-ap (mapFacts unwire) (eqb (new .port) q) (some (new .facts)) (viewOfTable t q)
+core-insert new t room fresh q = ap (mapFacts unwire) (view-insert new t q room fresh) ∙ cond-ap (mapFacts unwire) (eqb (new .port) q) (some (new .facts)) (viewOfTable t q)

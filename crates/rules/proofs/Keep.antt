@@ -67,15 +67,15 @@ unknown : (x : Option Facts) → x ≡ none → known x ≡ false
 unknown x e = ap known e
 
 distinct-insert : (new : Record) (t : Table) → fullTable t ≡ false → viewOfTable t (new .port) ≡ none → Distinct t → Distinct (insert new t)
-distinct-insert new [] refusalIfFull fresh d = d
-distinct-insert new (none ∷ t) refusalIfFull fresh d = (unknown (viewOfTable t (new .port)) fresh, d)
-distinct-insert new (some r ∷ t) refusalIfFull fresh d =
+distinct-insert new [] room fresh d = d
+distinct-insert new (none ∷ t) room fresh d = (unknown (viewOfTable t (new .port)) fresh, d)
+distinct-insert new (some r ∷ t) room fresh d =
     ⊎-elim
     (λ (e : eqb (r .port) (new .port) ≡ true). let there : some (r .facts) ≡ none = rw e at fresh in let z : _≡_ {A = ℕ} 0 1 = cc in absurd (omega arith))
     (λ (e : eqb (r .port) (new .port) ≡ false).
     let rest : viewOfTable t (new .port) ≡ none = rw e at fresh in
     let apart : eqb (new .port) (r .port) ≡ false = ne-eqb (new .port) (r .port) (λ (k : new .port ≡ r .port). eqb-false (r .port) (new .port) e (sym k)) in
-    (ap known (view-insert new t (r .port) refusalIfFull rest ∙ ap (λ (b : Bool). cond b (some (new .facts)) (viewOfTable t (r .port))) apart) ∙ d .0, distinct-insert new t refusalIfFull rest (d .1)))
+    (ap known (view-insert new t (r .port) room rest ∙ ap (λ (b : Bool). cond b (some (new .facts)) (viewOfTable t (r .port))) apart) ∙ d .0, distinct-insert new t room rest (d .1)))
     (which (eqb (r .port) (new .port)))
 
 distinct-freed : (t : Table) → Distinct (map freed t)
@@ -132,10 +132,10 @@ loose-remove p t l = record {
 }
 
 pub loose-insert : (new : Record) (t : Table) → fullTable t ≡ false → viewOfTable t (new .port) ≡ none → Loose t → Fit (new .port) (new .facts) → Loose (insert new t)
-loose-insert new t refusalIfFull fresh l good = record {
+loose-insert new t room fresh l good = record {
   size = length-insert new t ∙ l .size;
-  distinct = distinct-insert new t refusalIfFull fresh (l .distinct);
-  fit = λ q f e. one q f (which (eqb (new .port) q)) (sym (view-insert new t q refusalIfFull fresh) ∙ e);
+  distinct = distinct-insert new t room fresh (l .distinct);
+  fit = λ q f e. one q f (which (eqb (new .port) q)) (sym (view-insert new t q room fresh) ∙ e);
 }
   where
     one : (q : ℕ) (f : Facts) → (eqb (new .port) q ≡ true) ⊎ (eqb (new .port) q ≡ false) → cond (eqb (new .port) q) (some (new .facts)) (viewOfTable t q) ≡ some f → Fit q f

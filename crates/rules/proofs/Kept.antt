@@ -35,7 +35,7 @@ fit-learn p c good f k = record { small = k .small; device = k .device; settings
 
 pub record Fresh (t : Table) (p : ℕ) : Type 0 where
   pub absent : viewOfTable t p ≡ none
-  pub refusalIfFull : fullTable t ≡ false
+  pub room : fullTable t ≡ false
 
 pub fresh-by : (x : Option Facts) (full : Bool) → _≡_ {A = ℕ} (cond (known x) 11 (cond full 13 0)) 0 → (x ≡ none) × (full ≡ false)
 fresh-by none true e = let z : _≡_ {A = ℕ} 13 0 = e in absurd (omega arith)

@@ -70,14 +70,14 @@ view-remove port (some r ∷ t) q =
     other b (inr k) stays = rw k
 
 pub view-insert : (new : Record) (t : Table) (q : ℕ) → fullTable t ≡ false → viewOfTable t (new .port) ≡ none → viewOfTable (insert new t) q ≡ cond (eqb (new .port) q) (some (new .facts)) (viewOfTable t q)
-view-insert new [] q refusalIfFull fresh = let z : _≡_ {A = ℕ} 0 1 = cc in absurd (omega arith)
-view-insert new (none ∷ t) q refusalIfFull fresh = refl
-view-insert new (some r ∷ t) q refusalIfFull fresh =
+view-insert new [] q room fresh = let z : _≡_ {A = ℕ} 0 1 = cc in absurd (omega arith)
+view-insert new (none ∷ t) q room fresh = refl
+view-insert new (some r ∷ t) q room fresh =
     ⊎-elim
     (λ (yes : eqb (r .port) (new .port) ≡ true). let there : some (r .facts) ≡ none = rw yes at fresh in let z : _≡_ {A = ℕ} 0 1 = cc in absurd (omega arith))
     (λ (no : eqb (r .port) (new .port) ≡ false).
     let rest : viewOfTable t (new .port) ≡ none = rw no at fresh in
-    ap (λ (x : Option Facts). cond (eqb (r .port) q) (some (r .facts)) x) (view-insert new t q refusalIfFull rest) ∙ swap (which (eqb (r .port) q)) no)
+    ap (λ (x : Option Facts). cond (eqb (r .port) q) (some (r .facts)) x) (view-insert new t q room rest) ∙ swap (which (eqb (r .port) q)) no)
     (which (eqb (r .port) (new .port)))
   where
     swap : (eqb (r .port) q ≡ true) ⊎ (eqb (r .port) q ≡ false) → eqb (r .port) (new .port) ≡ false

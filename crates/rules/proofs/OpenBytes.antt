@@ -12,7 +12,7 @@ use Rattle.protocol.specs.Decode.{accepted, openOf}
 use Rattle.protocol.specs.Answer.{formOf, valuesOf}
 use Rattle.protocol.specs.declared.Message.{Message}
 use Rattle.protocol.specs.declared.Message.the-variants as Message'
-use Rattle.rules.specs.Effect.{Effect, Nothing, ToPort, Attach, AttachVirtual, Detach, Value, Disconnect, Connect, Empty, effectOf}
+use Rattle.rules.specs.Effect.{Effect, Nothing, ToPort, Attach, AttachVirtual, Detach, Value, Disconnect, Connect, Empty, emptiesTable, effectOf}
 use Rattle.rules.specs.Facts.{Ports}
 use Rattle.rules.specs.Judge.{judge}
 use Rattle.rules.specs.Dataset.{datasetAnswer}
@@ -58,7 +58,7 @@ value-bytes (Message'.PropertyRssi o v) s = inl refl
 value-bytes (Message'.PropertyVersion p o v) s = inl refl
 value-bytes (Message'.PropertyProtocol o v) s = inl refl
 value-bytes (Message'.PropertyAddress p o v) s = inl refl
-value-bytes (Message'.HubAction a) s = inl (action-alike (between 0x30 0x32 a))
+value-bytes (Message'.HubAction a) s = inl (action-alike (emptiesTable a))
 value-bytes (Message'.AlertCommand a o) s = inl refl
 value-bytes (Message'.AlertUpdate a v) s = inl refl
 value-bytes (Message'.Detached p) s = inl refl

@@ -18,7 +18,7 @@ use Rattle.protocol.proofs.FieldTrip.{taken-good, never, step-after}
 use Rattle.protocol.proofs.FieldsTrip.{one-step}
 use Rattle.protocol.proofs.FormTrip.{was-written, form-written}
 use Rattle.protocol.proofs.RoundTrip.{form-accepted}
-use Rattle.rules.specs.Effect.{Empty, Nothing, effectOf}
+use Rattle.rules.specs.Effect.{Empty, Nothing, emptiesTable, effectOf}
 use Rattle.rules.specs.Ranges.{effectFits}
 
 -- a number that fits its width and is in its list
@@ -75,7 +75,7 @@ listed-fits Form.propertyRssi vs k = refl
 listed-fits Form.propertyVersion vs k = refl
 listed-fits Form.propertyProtocol vs k = refl
 listed-fits Form.propertyAddress vs k = refl
-listed-fits Form.hubAction vs k = either-fits (between 0x30 0x32 (naturalAt vs 0))
+listed-fits Form.hubAction vs k = either-fits (emptiesTable (naturalAt vs 0))
 listed-fits Form.alertCommand vs k = refl
 listed-fits Form.alertUpdate vs k = refl
 listed-fits Form.detached vs k = refl

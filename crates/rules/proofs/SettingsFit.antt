@@ -6,6 +6,7 @@ use mathlib.Core.Option.{Option, none, some}
 use native.Mathlib.Omega.{arith}
 use borrow.Author.Tests.{ne-eqb, leb-true}
 use lib.Dec.{eqb, leb}
+use Rattle.protocol.specs.Form.{lastMode}
 use Rattle.protocol.proofs.Tests.{and-left, and-right}
 use Rattle.rules.specs.Layout.{modeCount}
 use Rattle.rules.specs.Effect.{Change, Unchanged, Formatted, Answered, Asked}
@@ -20,7 +21,7 @@ four-passed a b c d h =
     let ab = and-left (a && b) c abc in
     (and-left a b ab, and-right a b ab, and-right (a && b) c abc, and-right (a && b && c) d h)
 
--- no format of a mode from 16 on
+-- no format of a mode past the last
 abbrev pub NoHigh : (ℕ → Option Format) → Type 0
 NoHigh formats = (m : ℕ) → modeCount ≤ m → formats m ≡ none
 
@@ -78,9 +79,9 @@ unfolding learn
 learn-fits Unchanged good s k = k
 learn-fits (Formatted mode f) good s k =
     let l = listed s (k .lists) in
-    let low : mode ≤ 15 = leb-true mode 15 (and-left (leb mode 15) (formatFits (some f)) good) in
+    let low : mode ≤ lastMode = leb-true mode lastMode (and-left (leb mode lastMode) (formatFits (some f)) good) in
     record {
-      lists = fits-by (learn (Formatted mode f) s) (record { formats = formats-set modeCount mode f (s .formats) (and-right (leb mode 15) (formatFits (some f)) good) (l .formats); answered = l .answered; asked = l .asked; state = l .state });
+      lists = fits-by (learn (Formatted mode f) s) (record { formats = formats-set modeCount mode f (s .formats) (and-right (leb mode lastMode) (formatFits (some f)) good) (l .formats); answered = l .answered; asked = l .asked; state = l .state });
       high = λ m h. rw (ne-eqb mode m (λ (e : mode ≡ m). omega arith)) (k .high m h);
     }
 learn-fits (Answered x) good s k =

@@ -129,17 +129,17 @@ absent-after a b p g t e =
 
 follows-attach : (t : Table) (h : History) → Follows t h → (p d : ℕ) → fullTable t ≡ false → viewOfTable t p ≡ none → Follows (insert (newRecord p d Unjoined) t) (Attach p d ∷ h)
 unfolding sinceAttached
-follows-attach t h f p d refusalIfFull fresh q =
-    core-insert (newRecord p d Unjoined) t refusalIfFull fresh q ∙ ap (λ (x : Option Facts). cond (eqb p q) (some (bare d Unjoined)) x) (f q) ∙ sym (cond-ap factsSince (eqb p q) (since (plain d) []) (sinceAttached q h))
+follows-attach t h f p d room fresh q =
+    core-insert (newRecord p d Unjoined) t room fresh q ∙ ap (λ (x : Option Facts). cond (eqb p q) (some (bare d Unjoined)) x) (f q) ∙ sym (cond-ap factsSince (eqb p q) (since (plain d) []) (sinceAttached q h))
 
 follows-virtual : (t : Table) (h : History) → Follows t h → (p d a b : ℕ) → fullTable t ≡ false → viewOfTable t p ≡ none → wiredIn t a ≡ some Unjoined → wiredIn t b ≡ some Unjoined → (a ≡ b → ⊥)
     → Follows (insert (newRecord p d (Virtual a b)) (change b (wired (Joined p)) (change a (wired (Joined p)) t))) (AttachVirtual p d a b ∷ h)
 unfolding sinceAttached
-follows-virtual t h f p d a b refusalIfFull fresh one two ab q =
+follows-virtual t h f p d a b room fresh one two ab q =
     let u : Table = change b (wired (Joined p)) (change a (wired (Joined p)) t) in
-    let refusalIfFull′ : fullTable u ≡ false = full-change b (wired (Joined p)) (change a (wired (Joined p)) t) ∙ full-change a (wired (Joined p)) t ∙ refusalIfFull in
+    let room′ : fullTable u ≡ false = full-change b (wired (Joined p)) (change a (wired (Joined p)) t) ∙ full-change a (wired (Joined p)) t ∙ room in
     let second : wiredIn (change a (wired (Joined p)) t) b ≡ some Unjoined = wired-change a (Joined p) Unjoined t one b ∙ put-other a (some (Joined p)) (wiredIn t) b ab ∙ two in
-    core-insert (newRecord p d (Virtual a b)) u refusalIfFull′ (absent-after a b p (wired (Joined p)) t fresh) q
+    core-insert (newRecord p d (Virtual a b)) u room′ (absent-after a b p (wired (Joined p)) t fresh) q
     ∙ ap (λ (x : Option Facts). cond (eqb p q) (some (bare d (Virtual a b))) x) (core-wired b (Joined p) Unjoined (change a (wired (Joined p)) t) second refl q ∙ core-wired a (Joined p) Unjoined t one refl q ∙ f q)
     ∙ sym (cond-ap factsSince (eqb p q) (since (pair d a b) []) (sinceAttached q h))
 

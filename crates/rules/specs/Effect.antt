@@ -1,6 +1,6 @@
 -- What a message is to the port table: document 01's table rules.
 use Prim.Native.Nat.{ℕ}
-use mathlib.Core.Bool.{cond}
+use mathlib.Core.Bool.{Bool, cond}
 use Rattle.protocol.specs.Rule.{between}
 use Rattle.protocol.specs.declared.Message.{Message}
 use Rattle.protocol.specs.declared.Message.the-variants as Message'
@@ -13,9 +13,12 @@ pub use Rattle.rules.specs.declared.Effect.the-variants.{Nothing, ToPort
 abbrev pub setup : ℕ → ℕ → ℕ → Setup
 setup m d n = record { mode = m; delta = d; notify = n }
 
--- 30, 31 and 32 empty the table
+-- document 01's table-emptying notices: 30, 31 and 32
+abbrev pub emptiesTable : ℕ → Bool
+emptiesTable a = between 0x30 0x32 a
+
 abbrev pub actionEffect : ℕ → Effect
-actionEffect a = cond (between 0x30 0x32 a) Empty Nothing
+actionEffect a = cond (emptiesTable a) Empty Nothing
 
 unfoldable pub effectOf : Message → Effect
 effectOf (Message'.PropertyCommand p o) = Nothing

@@ -55,7 +55,7 @@ value bytes = up ((4 + length bytes) ∷ 0x00 ∷ 0x45 ∷ 0x00 ∷ bytes)
 abbrev five : Entry
 five = value (0x05 ∷ 0x00 ∷ 0x00 ∷ 0x00 ∷ [])
 
--- one of each form that refusalIfAbsent its port present: 21, 22, 41, 43, 44, 45, 47 and a detachment
+-- one of each form that wants its port present: 21, 22, 41, 43, 44, 45, 47 and a detachment
 abbrev wanting : List Entry
 wanting =
     request

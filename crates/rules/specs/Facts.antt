@@ -50,6 +50,7 @@ isUnjoined Unjoined = true
 isUnjoined (Joined v) = false
 isUnjoined (Virtual a b) = false
 
+-- document 01's physical ports are the others
 abbrev pub isVirtual : Wiring → Bool
 isVirtual Unjoined = false
 isVirtual (Joined v) = false

@@ -36,7 +36,8 @@ abbrev pub unlessMember : ℕ → Since → Since
 unlessMember port absent = absent
 unlessMember port (since a changes) = cond (hasMember a port) absent (since a changes)
 
--- going back from the latest: the port's attachment, an ending, or neither
+-- going back from the latest: the port's attachment; one of document 01's endings, which are its detachment, a member's
+-- detachment for a virtual port, and a table-emptying notice; or neither
 unfoldable pub sinceAttached : ℕ → History → Since
 sinceAttached port [] = absent
 sinceAttached port (Nothing ∷ h) = sinceAttached port h
@@ -49,7 +50,7 @@ sinceAttached port (Disconnect p ∷ h) = sinceAttached port h
 sinceAttached port (Connect a b ∷ h) = sinceAttached port h
 sinceAttached port (Empty ∷ h) = absent
 
--- the virtual port, among those below a number, that is present and names a port
+-- document 01's partner of a joined port: the virtual port that is present and names it, looked for below a number
 abbrev pub isPartner : ℕ → Since → Bool
 isPartner port absent = false
 isPartner port (since a changes) = hasMember a port

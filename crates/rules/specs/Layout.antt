@@ -1,5 +1,6 @@
 -- Sizes, and where each number of a record lies among the cells of its place.
-use Prim.Native.Nat.{ℕ, _*_}
+use Prim.Native.Nat.{ℕ, suc, _*_}
+use Rattle.protocol.specs.Form.{lastMode}
 
 -- ports are below it
 abbrev pub portCount : ℕ
@@ -7,7 +8,7 @@ portCount = 256
 
 -- modes are below it
 abbrev pub modeCount : ℕ
-modeCount = 16
+modeCount = suc lastMode
 
 -- records of a table
 abbrev pub places : ℕ

@@ -58,7 +58,7 @@ remove port [] = []
 remove port (none ∷ t) = none ∷ remove port t
 remove port (some r ∷ t) = cond (eqb (r .port) port) none (some r) ∷ remove port t
 
--- a port that has just been attached
+-- document 01's bare record: a port that has just been attached
 abbrev pub bare : ℕ → Wiring → Facts
 bare device wiring = record { device = device; wiring = wiring; settings = bareSettings }
 

@@ -5,6 +5,7 @@ use mathlib.Core.Bool.{Bool, true, false, cond, not, _&&_, _||_}
 use mathlib.Core.List.{[], _∷_}
 use mathlib.Core.Option.{Option, none, some}
 use lib.Dec.{eqb, leb, ltb}
+use Rattle.protocol.specs.Form.{lastMode, lastNotify, mostDatasets, lastKind}
 use Rattle.protocol.specs.Rule.{between}
 use Rattle.rules.specs.Layout.{portCount, modeCount}
 use Rattle.rules.specs.Facts.{Setup, Format, Settings, Wiring, Unjoined, Joined, Virtual, Facts, View, known}
@@ -13,11 +14,11 @@ use Rattle.rules.specs.Table.{Record, Table, viewOfTable}
 
 abbrev pub setupFits : Option Setup → Bool
 setupFits none = true
-setupFits (some s) = leb (s .mode) 15 && ltb (s .delta) 4294967296 && leb (s .notify) 1
+setupFits (some s) = leb (s .mode) lastMode && ltb (s .delta) 4294967296 && leb (s .notify) lastNotify
 
 abbrev pub formatFits : Option Format → Bool
 formatFits none = true
-formatFits (some f) = between 1 16 (f .datasets) && leb (f .kind) 3 && ltb (f .figures) 256 && ltb (f .decimals) 256
+formatFits (some f) = between 1 mostDatasets (f .datasets) && leb (f .kind) lastKind && ltb (f .figures) 256 && ltb (f .decimals) 256
 
 -- the formats of the modes below a number
 abbrev pub formatsFit : ℕ → (ℕ → Option Format) → Bool

@@ -9,24 +9,25 @@ use lib.Dec.{eqb, leb, leb·suc-suc, eqb·suc-zero, eqb·suc-suc}
 use lib.ListN.{drop}
 use lib.Seq.{getD-take, getD-drop}
 use Rattle.rules.specs.Layout.{modeCount, stateIndex, askedIndex, answeredIndex, formatsIndex}
+use Rattle.protocol.specs.Form.{lastMode, lastNotify, mostDatasets, lastKind}
 use Rattle.rules.specs.WellFormed.{setupFits, formatFits, formatsFit, stateFits}
 use Rattle.rules.specs.Cells.{cellAt, formatAt, setupAt, settingsAt}
 use Rattle.soundness.specs.Soundness.{formatsInFit, sameSetups, stateInFits}
 
 -- ---- a setup, whose delta is a cell
 
-pub setup-fits : (mode delta notify : ℕ) → delta < 4294967296 → (eqb mode 0 || (leb mode modeCount && leb notify 1)) ≡ setupFits (setupAt mode delta notify)
+pub setup-fits : (mode delta notify : ℕ) → delta < 4294967296 → (eqb mode 0 || (leb mode modeCount && leb notify lastNotify)) ≡ setupFits (setupAt mode delta notify)
 setup-fits zero delta notify h = refl
 setup-fits (suc m) delta notify h =
-    ap (λ (b : Bool). b || (leb (suc m) modeCount && leb notify 1)) (eqb·suc-zero m)
-    ∙ ap (λ (b : Bool). b && leb notify 1) (leb·suc-suc m 15 ∙ sym (and-true (leb m 15)) ∙ ap (λ (b : Bool). leb m 15 && b) (sym (lt-ltb delta 4294967296 h)))
+    ap (λ (b : Bool). b || (leb (suc m) modeCount && leb notify lastNotify)) (eqb·suc-zero m)
+    ∙ ap (λ (b : Bool). b && leb notify lastNotify) (leb·suc-suc m lastMode ∙ sym (and-true (leb m lastMode)) ∙ ap (λ (b : Bool). leb m lastMode && b) (sym (lt-ltb delta 4294967296 h)))
 
 -- ---- a format, whose figures and decimals are bytes
 
-pub format-fits : (n : ℕ) → n < 4294967296 → (eqb n 0 || (leb 1 (n % 256) && leb (n % 256) 16 && leb (n / 256 % 256) 3)) ≡ formatFits (formatAt n)
+pub format-fits : (n : ℕ) → n < 4294967296 → (eqb n 0 || (leb 1 (n % 256) && leb (n % 256) mostDatasets && leb (n / 256 % 256) lastKind)) ≡ formatFits (formatAt n)
 format-fits zero h = refl
 format-fits (suc n) h =
-    let front : Bool = leb 1 (suc n % 256) && leb (suc n % 256) 16 && leb (suc n / 256 % 256) 3 in
+    let front : Bool = leb 1 (suc n % 256) && leb (suc n % 256) mostDatasets && leb (suc n / 256 % 256) lastKind in
     let figures : suc n / 256 / 256 % 256 < 256 = omega arith in
     let decimals : suc n / 256 / 256 / 256 < 256 = omega arith in
     ap (λ (b : Bool). b || front) (eqb·suc-zero n)

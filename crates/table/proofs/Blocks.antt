@@ -10,7 +10,7 @@ use mathlib.Core.Option.{Option, none, some}
 use borrow.Author.Tests.{eq-eqb, ne-eqb}
 use lib.Dec.{eqb}
 use lib.ListN.{length, getD, set}
-use Rattle.protocol.specs.Form.{upFrom}
+use Rattle.protocol.specs.Form.{upFrom, lastMode}
 use Rattle.rules.specs.Facts.{Facts}
 use Rattle.rules.specs.declared.Setup.{Setup}
 use Rattle.rules.specs.declared.Format.{Format}
@@ -75,7 +75,7 @@ setups-length (some s) (some t) = refl
 abbrev pub format-stores : ℕ → Format → List Store
 format-stores mode new = put (formatsIndex + mode) (formatCell (some new)) ∷ []
 
-pub format-block : (r : Record) (mode : ℕ) (new : Format) → mode ≤ 15
+pub format-block : (r : Record) (mode : ℕ) (new : Format) → mode ≤ lastMode
     → storedIn (recordCells r) (format-stores mode new) ≡ recordCells (with-facts r (onSettings (learn (Formatted mode new)) (r .facts)))
 unfolding recordCells learn
 format-block r mode new h =

@@ -18,6 +18,7 @@ use Rattle.rules.specs.declared.Format.{Format}
 use Rattle.rules.specs.declared.Wiring.{Wiring}
 use Rattle.rules.specs.declared.Wiring.the-variants.{Unjoined, Joined, Virtual}
 use Rattle.rules.specs.Table.{Record, Table, viewOfTable, fullTable, changed, change, remove, newRecord, wired, onSettings, dissolve, wiredAs, dissolveBy, detachBy, apply}
+use Rattle.protocol.specs.Form.{lastMode}
 use Rattle.rules.specs.Judge.{pairTest}
 use Rattle.rules.specs.Cells.{wiringCell, firstPartner, secondPartner, placeCells, cellsOf, tableAt, setupAt, sound, emptyCells}
 use Rattle.rules.proofs.Sound.{wiring?, wiredIn, Sound, seen}
@@ -140,7 +141,7 @@ module _ (cells : List ℕ) (ok : sound cells ≡ true) where
 
     -- ---- what it is told
 
-    pub set-format-is : (mode : ℕ) (new : Format) → mode ≤ 15 → stored cells place (format-stores mode new) ≡ cellsOf (apply (ToPort port (Formatted mode new)) t)
+    pub set-format-is : (mode : ℕ) (new : Format) → mode ≤ lastMode → stored cells place (format-stores mode new) ≡ cellsOf (apply (ToPort port (Formatted mode new)) t)
     unfolding apply
     set-format-is mode new h =
         (λ i. stored (is i) (at i) (format-stores mode new))
@@ -183,7 +184,7 @@ module _ (cells : List ℕ) (ok : sound cells ≡ true) where
         same : (w : Wiring) → isVirtual w ≡ true → dissolveBy port w t ≡ detachBy port w t
         same w v = ap (λ (y : Wiring). dissolveBy port y t) (virtual-is w v) ∙ sym (ap (λ (y : Wiring). detachBy port y t) (virtual-is w v))
 
-    -- a Virtual port's members
+    -- a virtual port's members
     module _ (v : isVirtual (wiredAs (viewOfTable t port)) ≡ true) where
       abbrev a : ℕ
       a = cellOf cells place firstIndex
@@ -210,7 +211,7 @@ module _ (cells : List ℕ) (ok : sound cells ≡ true) where
           ∙ (λ i. zeroed (stored (stored (is i) (at-a i) (wiring-stores Unjoined)) (at-b i) (wiring-stores Unjoined)) (stride * at i) stride) ∙ dissolve-cells t port a b formed pair
           ∙ sym (ap (λ (y : Wiring). cellsOf (dissolveBy port y t)) (wired-as (viewOfTable t port) (Virtual a b) pair))
 
-    -- a member of a Virtual port
+    -- a member of a virtual port
     module _ (not-pair : cellOf cells place wiringIndex ≡ 3 → ⊥) (not-alone : cellOf cells place wiringIndex ≡ 1 → ⊥) where
       abbrev v : ℕ
       v = cellOf cells place firstIndex
@@ -229,7 +230,7 @@ module _ (cells : List ℕ) (ok : sound cells ≡ true) where
       pub partner-virtual : isVirtual (wiredAs (viewOfTable t v)) ≡ true
       partner-virtual = ap isVirtual (wired-as (viewOfTable t v) its (named .pair))
 
-      -- what is left of the table without the Virtual port
+      -- what is left of the table without the virtual port
       abbrev rest : Table
       rest = dissolve v (named .a) (named .b) t
 
