@@ -20,7 +20,7 @@ ghost use Rattle.table.specs.PortAnswer.{portByCells};
 ghost use Rattle.table_cells.specs.Rows.{datasetRow, formatRow, outcomeNumber, portRow};
 ghost use Rattle.capi.specs.Filled.{filledBy, filledWith};
 
-// Makes an empty table of 448 cells. Returns 0; another number of cells is 9 times 2 ^ 32, and
+// Makes an empty table of a table's number of cells. Returns 0; another number of cells is 9 times 2 ^ 32, and
 // nothing changes.
 #[no_mangle]
 pub extern "C" fn castanetash_empty(table: &mut [u32]) -> u64
