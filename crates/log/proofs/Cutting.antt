@@ -32,7 +32,7 @@ abbrev pub outputFrom : ℕ → Run → List ℕ → List ℕ
 outputFrom part r t = closing (r .lines) (r .refused) (linesFrom part (r .cells) (r .rest ++ t))
 
 -- records that are there whole are worked through first
-some-worked : (part n : ℕ) (r : Run) (t : List ℕ) → n * recordSize part ≤ length (r .rest) → printed part n r ++ outputFrom part (worked part n r) t ≡ outputFrom part r t
+pub some-worked : (part n : ℕ) (r : Run) (t : List ℕ) → n * recordSize part ≤ length (r .rest) → printed part n r ++ outputFrom part (worked part n r) t ≡ outputFrom part r t
 some-worked part n r t h =
     let ls : List Line = linesOf part n (r .cells) (r .rest) in
     let after : Run = worked part n r in

@@ -7,5 +7,6 @@ pub mod Laws
 pub mod Lines
 pub mod OneMore
 pub mod OverwriteIfRoom
+pub mod Pieces
 pub mod Records
 pub mod Spelling

@@ -1,13 +1,22 @@
 -- Laws of the log. They are proved in proofs/Laws.antt.
-use Prim.Native.Nat.{ℕ, _<_}
+use Prim.Native.Nat.{ℕ, _+_, _<_}
 use mathlib.Core.Path.{_≡_}
 use mathlib.Core.List.{List, _++_}
 use lib.ListN.{length}
 use Rattle.log.specs.Record.{recordSize}
 use Rattle.log.specs.Output.{output}
-use Rattle.log.specs.Cutting.{Step, start, through, textThrough, ending, wholeInput}
+use Rattle.log.specs.Cutting.{Run, Step, start, worked, printed, through, textThrough, ending, wholeInput}
+use Rattle.log.specs.Pieces.{afterPieces, piecesText, joined}
 
 -- however the input is cut and worked through, once no whole record is left, what was printed and the ending are the
 -- output of the whole, totals and last piece included; over the size of the message part
 abbrev pub AnyCutting : Type 0
 AnyCutting = (part : ℕ) (steps : List Step) → length (through part start steps .rest) < recordSize part → textThrough part start steps ++ ending (through part start steps) ≡ output part (wholeInput steps)
+
+-- two blocks, one after the other, are the block of their records
+abbrev pub BlockAfterBlock : Type 0
+BlockAfterBlock = (part n m : ℕ) (r : Run) → (worked part m (worked part n r) ≡ worked part (n + m) r) × (printed part n r ++ printed part m (worked part n r) ≡ printed part (n + m) r)
+
+-- a log in any pieces: what is printed of them, one after the other from the start, and the ending are the output of the whole
+abbrev pub PieceByPiece : Type 0
+PieceByPiece = (part : ℕ) (pieces : List (List ℕ)) → piecesText part start pieces ++ ending (afterPieces part start pieces) ≡ output part (joined pieces)

@@ -6,6 +6,7 @@ pub mod Line
 pub mod Output
 pub mod Block
 pub mod Cutting
+pub mod Pieces
 pub mod Ending
 pub mod Laws
 pub mod Examples
