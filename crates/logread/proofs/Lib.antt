@@ -1,3 +1,5 @@
+pub mod Blocks
 pub mod Bounds
 pub mod Endings
 pub mod Moving
+pub mod Records

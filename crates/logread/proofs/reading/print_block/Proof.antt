@@ -1,58 +1,67 @@
+use Prim.Native.Nat.{ℕ, _≤_}
+use mathlib.Core.Path.{sym, subst}
+use lib.Seq.{length-take-le}
+use Rattle.table.specs.BlockAnswer.{runOf}
+use Rattle.logread.proofs.Blocks.{written-most, block-lines, block-done, not-refused}
 use borrow.Author.Needs.{needs}
 use Rattle.logread.proofs.reading.print_block.Statement.{statement}
 use Rattle.logread.proofs.reading.print_block.Tie as tie
-use Rattle.logread.proofs.reading.print_block.Reads as reads
-use Rattle.logread.proofs.reading.print_block.Lts as lts
-use Rattle.logread.proofs.reading.print.Reads as print-reads
-use Rattle.table.proofs.read_block.Reads as read-block-reads
 
--- src/reading.rt:64:11
 read-block-requires : tie.Need-read-block-requires
 read-block-requires c κs = search needs
 
--- src/reading.rt:66:13
 enum-known-taken : tie.Need-enum-known-taken
 enum-known-taken c = search needs
 
--- src/reading.rt:74:32
 slice-reshare-prefix-print : tie.Need-slice-reshare-prefix-print
-slice-reshare-prefix-print c = ?
+slice-reshare-prefix-print c =
+    let a = c .before .before .before .before .before .before .before .before .before .before .before .before .before .args in
+    let r = runOf (a .table .now) (a .lines) (a .refused) (a .input .now) in
+    let b = c .before .before .before .before .before .before .before .read-block in
+    subst (λ (n : ℕ). c .before .taken .given .0 .1 .0 ≤ n) (sym (c .before .before .before .before .out .given)) (written-most r (a .out .now) (c .before .before .before .before .before .before .before .before .before .before .before .before .before .pre) (b .result) (b .ensures .0) (c .before .taken .given .1) (b .ensures .3))
 
--- src/reading.rt:74:32
 slice-aggregate-print : tie.Need-slice-aggregate-print
-slice-aggregate-print c = ?
+slice-aggregate-print c =
+    let a = c .before .before .before .before .before .before .before .before .before .before .before .before .before .before .args in
+    let r = runOf (a .table .now) (a .lines) (a .refused) (a .input .now) in
+    let b = c .before .before .before .before .before .before .before .before .read-block in
+    sym (length-take-le (c .before .before .taken .given .0 .1 .0) (b .last .1 .1 .1 .1 .0) (subst (λ (n : ℕ). c .before .before .taken .given .0 .1 .0 ≤ n) (sym (c .before .before .before .before .before .out .given)) (written-most r (a .out .now) (c .before .before .before .before .before .before .before .before .before .before .before .before .before .before .pre) (b .result) (b .ensures .0) (c .before .before .taken .given .1) (b .ensures .3))))
 
--- src/reading.rt:74:26
 print-requires : tie.Need-print-requires
-print-requires c κs = ?
+print-requires c κs =
+    let a = c .before .before .before .before .before .before .before .before .before .before .before .before .before .before .args in
+    let r = runOf (a .table .now) (a .lines) (a .refused) (a .input .now) in
+    let b = c .before .before .before .before .before .before .before .before .read-block in
+    block-lines r (a .out .now) (c .before .before .before .before .before .before .before .before .before .before .before .before .before .before .pre) (b .result) (b .ensures .0) (c .before .before .taken .given .1) (b .ensures .3) (b .ensures .2)
 
--- src/reading.rt:79:14
 enum-told : tie.Need-enum-told
 enum-told c = search needs
 
--- src/reading.rt:60:1
 same-length : tie.Need-same-length
 same-length c = search needs
 
--- src/reading.rt:60:1
 same-length-2 : tie.Need-same-length-2
 same-length-2 c = search needs
 
--- src/reading.rt:60:1
 returns : tie.Need-returns
-returns c = ?
+returns c =
+    let a = c .before .before .before .before .before .before .before .before .before .before .before .before .before .before .before .args in
+    let r = runOf (a .table .now) (a .lines) (a .refused) (a .input .now) in
+    let b = c .before .before .before .before .before .before .before .before .before .read-block in
+    block-done r (a .out .now) (c .before .before .before .before .before .before .before .before .before .before .before .before .before .before .before .pre) (b .result) (b .ensures .0) (c .before .before .before .taken .given .1) (b .ensures .3) (b .ensures .1) (λ (k : ℕ). c .before .before .before .before .before .before .before .before .before .before .before .before .before .shared-slice-known .given k .fits)
 
--- src/reading.rt:60:1
 same-length-3 : tie.Need-same-length-3
 same-length-3 c = search needs
 
--- src/reading.rt:60:1
 same-length-4 : tie.Need-same-length-4
 same-length-4 c = search needs
 
--- src/reading.rt:60:1
 returns-2 : tie.Need-returns-2
-returns-2 c = ?
+returns-2 c =
+    let a = c .before .before .before .before .before .before .before .before .before .before .before .before .args in
+    let r = runOf (a .table .now) (a .lines) (a .refused) (a .input .now) in
+    let b = c .before .before .before .before .before .before .read-block in
+    absurd (not-refused r (a .out .now) (c .before .before .before .before .before .before .before .before .before .before .before .before .pre) (b .result) (b .ensures .0) (c .enum-told .given .1))
 
 pub print-block-spec : {M : Type 1} → statement M
 print-block-spec =

@@ -1,99 +1,83 @@
+use Prim.Native.Nat.{_-_}
+use mathlib.Core.Path.{_≡_, refl, _∙_}
+use native.Mathlib.Omega.{arith}
+use lib.ListN.{length}
+use borrow.Author.Needs.{needs}
+use Rattle.table.specs.BlockAnswer.{runOf}
+use Rattle.logread.proofs.Records.{Passed, passed-none, passed-more, within, records-failed, records-all}
 use Rattle.logread.proofs.reading.print_records.Statement.{statement}
 use Rattle.logread.proofs.reading.print_records.Tie as tie
-use Rattle.logread.proofs.reading.print_records.Reads as reads
-use Rattle.logread.proofs.reading.print_records.Lts as lts
-use Rattle.logread.proofs.reading.print_block.Reads as print-block-reads
-use Rattle.logread.proofs.words.tell.Reads as tell-reads
 
 abbrev Inv-loop : tie.InvT-loop
-Inv-loop table₀ lines refused input out₀ done₀ count₀ bad₀ t10 t11 table out done count bad = ?
+Inv-loop table₀ lines refused input out₀ done₀ count₀ bad₀ t10 t11 table out done count bad = Passed (runOf table₀ lines refused input) table done count bad × (length table ≡ length table₀) × (length out ≡ length out₀)
 
 abbrev μ-loop : tie.MeasureT-loop
-μ-loop table₀ lines refused input out₀ done₀ count₀ bad₀ t10 t11 table out done count bad = ?
+μ-loop table₀ lines refused input out₀ done₀ count₀ bad₀ t10 t11 table out done count bad = length input - done
 
--- src/reading.rt:96:5
 loop-holds : tie.Need-loop-holds Inv-loop μ-loop
-loop-holds c = ?
+loop-holds c =
+    let a = c .before .before .before .args in
+    (passed-none (runOf (a .table .now) (a .lines) (a .refused) (a .input .now)) (c .before .before .before .pre .0), refl, refl)
 
--- src/reading.rt:96:26
 sub-loop : tie.Need-sub-loop Inv-loop μ-loop
-sub-loop c = ?
+sub-loop c = c .loop .inv .0 .through .most
 
--- src/reading.rt:97:52
 sub-print-block : tie.Need-sub-print-block Inv-loop μ-loop
-sub-print-block c = ?
+sub-print-block c = c .before .before .loop .inv .0 .through .most
 
--- src/reading.rt:97:52
 part-print-block-start : tie.Need-part-print-block-start Inv-loop μ-loop
-part-print-block-start c = ?
+part-print-block-start c = search needs
 
--- src/reading.rt:97:52
 part-print-block-end : tie.Need-part-print-block-end Inv-loop μ-loop
-part-print-block-end c = ?
+part-print-block-end c = search needs
 
--- src/reading.rt:97:13
 print-block-requires : tie.Need-print-block-requires Inv-loop μ-loop
-print-block-requires c κs = ?
+print-block-requires c κs = c .before .before .before .before .loop .inv .0 .through .good
 
--- src/reading.rt:98:9
 add-done : tie.Need-add-done Inv-loop μ-loop
-add-done c = ?
+add-done c = record { fits = omega (arith, within (c .before .before .before .before .before .before .before .before .before .before .loop .inv .0) (c .before .before .before .before .before .print-block .ensures), c .before .before .before .before .before .before .before .before .before .before .before .before .before .before .good) }
 
--- src/reading.rt:102:13
 same-length : tie.Need-same-length Inv-loop μ-loop
-same-length c = ?
+same-length c = c .before .before .before .before .before .table .given ∙ c .before .before .before .before .before .before .before .before .before .before .before .loop .inv .1
 
--- src/reading.rt:102:13
 same-length-2 : tie.Need-same-length-2 Inv-loop μ-loop
-same-length-2 c = ?
+same-length-2 c = c .before .before .before .out .given ∙ c .before .before .before .before .before .before .before .before .before .before .before .loop .inv .2
 
--- src/reading.rt:102:13
 returns : tie.Need-returns Inv-loop μ-loop
-returns c = ?
+returns c = records-failed (passed-more (c .before .before .before .before .before .before .before .before .before .before .before .loop .inv .0) (c .before .before .before .before .before .before .print-block .ensures))
 
--- src/reading.rt:110:18
 slice-aggregate-tell : tie.Need-slice-aggregate-tell Inv-loop μ-loop
-slice-aggregate-tell c = ?
+slice-aggregate-tell c = search needs
 
--- src/reading.rt:110:39
 slice-aggregate-tell-2 : tie.Need-slice-aggregate-tell-2 Inv-loop μ-loop
-slice-aggregate-tell-2 c = ?
+slice-aggregate-tell-2 c = search needs
 
--- src/reading.rt:110:13
 tell-requires : tie.Need-tell-requires Inv-loop μ-loop
-tell-requires c κs = ?
+tell-requires c κs = tt
 
--- src/reading.rt:111:13
 same-length-3 : tie.Need-same-length-3 Inv-loop μ-loop
-same-length-3 c = ?
+same-length-3 c = c .before .before .before .before .before .before .before .before .before .before .table .given ∙ c .before .before .before .before .before .before .before .before .before .before .before .before .before .before .before .before .loop .inv .1
 
--- src/reading.rt:111:13
 same-length-4 : tie.Need-same-length-4 Inv-loop μ-loop
-same-length-4 c = ?
+same-length-4 c = c .before .before .before .before .before .before .before .before .out .given ∙ c .before .before .before .before .before .before .before .before .before .before .before .before .before .before .before .before .loop .inv .2
 
--- src/reading.rt:111:13
 returns-2 : tie.Need-returns-2 Inv-loop μ-loop
-returns-2 c = ?
+returns-2 c = records-failed (passed-more (c .before .before .before .before .before .before .before .before .before .before .before .before .before .before .before .before .loop .inv .0) (c .before .before .before .before .before .before .before .before .before .before .before .print-block .ensures))
 
--- src/reading.rt:96:5
 loop-less : tie.Need-loop-less Inv-loop μ-loop
-loop-less c = ?
+loop-less c = omega (arith, within (c .before .before .before .before .before .before .before .before .before .before .before .before .before .loop .inv .0) (c .before .before .before .before .before .before .before .before .print-block .ensures), c .if2 .left)
 
--- src/reading.rt:96:5
 loop-again : tie.Need-loop-again Inv-loop μ-loop
-loop-again c = ?
+loop-again c = (passed-more (c .before .before .before .before .before .before .before .before .before .before .before .before .before .loop .inv .0) (c .before .before .before .before .before .before .before .before .print-block .ensures), c .before .before .before .before .before .before .before .table .given ∙ c .before .before .before .before .before .before .before .before .before .before .before .before .before .loop .inv .1, c .before .before .before .before .before .out .given ∙ c .before .before .before .before .before .before .before .before .before .before .before .before .before .loop .inv .2)
 
--- src/reading.rt:89:1
 same-length-5 : tie.Need-same-length-5 Inv-loop μ-loop
-same-length-5 c = ?
+same-length-5 c = c .before .loop .inv .1
 
--- src/reading.rt:89:1
 same-length-6 : tie.Need-same-length-6 Inv-loop μ-loop
-same-length-6 c = ?
+same-length-6 c = c .before .loop .inv .2
 
--- src/reading.rt:89:1
 returns-3 : tie.Need-returns-3 Inv-loop μ-loop
-returns-3 c = ?
+returns-3 c = records-all (c .before .loop .inv .0) (c .loop-test .left)
 
 pub print-records-spec : {M : Type 1} → statement M
 print-records-spec =
