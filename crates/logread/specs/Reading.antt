@@ -52,23 +52,29 @@ fetchedFits (Bytes count) held size = held + count ≤ size
 fetchedFits End held size = Unit {0}
 fetchedFits Failed held size = Unit {0}
 
--- where it did not fail, the run has gone on to another one, in which no whole record is left
+-- the program stands at a run, with a sound table
 pub record Reached (r : Run) (table input : List ℕ) (p : Progress) : Type 0 where
   pub run : runAt table input p ≡ r
   pub good : sound table ≡ true
   pub most : p .held ≤ length input
 
--- all whole records of what is there were worked through, and the rest is held
-abbrev pub TakenIn : Run → List ℕ → List ℕ → Progress → Type 0
-TakenIn r table input p = p .«has_failed» ≡ false → Reached (allWorked 128 r) table input p
+-- the reading goes on only where nothing failed
+abbrev pub GoesOn : Progress → Type 0
+GoesOn p = p .«is_open» ≡ true → p .«has_failed» ≡ false
 
--- at the end of the input nothing has changed; else one piece has come
+-- all whole records of what is there were worked through, and the rest is held
+pub record TakenIn (r : Run) (table input : List ℕ) (p : Progress) : Type 0 where
+  pub on : GoesOn p
+  pub reached : p .«has_failed» ≡ false → Reached (allWorked 128 r) table input p
+
+-- one piece came, or nothing at the end of the input
 pub data Went (r : Run) (table input : List ℕ) (p : Progress) : Type 0 where
   ended : p .«is_open» ≡ false → Reached r table input p → Went r table input p
   came : (s : List ℕ) → Reached (allWorked 128 (withMore r s)) table input p → Went r table input p
 
-abbrev pub Stepped : Run → List ℕ → List ℕ → Progress → Type 0
-Stepped r table input p = p .«has_failed» ≡ false → Went r table input p
+pub record Stepped (r : Run) (table input : List ℕ) (p : Progress) : Type 0 where
+  pub on : GoesOn p
+  pub went : p .«has_failed» ≡ false → Went r table input p
 
 -- what is printed at the end of the input, in an output of so many bytes
 abbrev pub endingOf : ℕ → Progress → List ℕ

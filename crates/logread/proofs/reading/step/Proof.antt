@@ -1,66 +1,60 @@
+use Prim.Native.Nat.{ℕ, _+_, _≤_}
+use lib.ListN.{length}
+use mathlib.Core.Bool.{true, false}
+use mathlib.Core.Path.{sym, subst}
+use native.Mathlib.Omega.{arith}
+use Rattle.logread.proofs.Reached.{bytes-fit, piece-came, nothing-came}
 use borrow.Author.Needs.{needs}
 use Rattle.logread.proofs.reading.step.Statement.{statement}
 use Rattle.logread.proofs.reading.step.Tie as tie
-use Rattle.logread.proofs.reading.step.Reads as reads
-use Rattle.logread.proofs.reading.step.Lts as lts
-use Rattle.logread.proofs.reading.fetch.Reads as fetch-reads
-use Rattle.logread.proofs.reading.take_in.Reads as take-in-reads
 
--- src/reading.rt:184:11
 fetch-requires : tie.Need-fetch-requires
 fetch-requires c κs = search needs
 
--- src/reading.rt:185:26
 enum-known-count : tie.Need-enum-known-count
 enum-known-count c = search needs
 
--- src/reading.rt:185:67
 add-take-in : tie.Need-add-take-in
-add-take-in c = ?
+add-take-in c = record { fits = omega (arith, bytes-fit (c .before .before .before .before .before .before .before .before .before .before .before .before .before .before .before .args .p .held) (length (c .before .before .before .before .before .before .before .before .before .before .before .before .before .before .before .args .input .now)) (c .before .before .before .before .before .count .given .1) (c .before .before .before .before .before .before .before .before .before .fetch .ensures .1), c .before .before .before .before .before .before .before .before .before .before .before .before .before .before .before .good) }
 
--- src/reading.rt:185:37
 take-in-requires : tie.Need-take-in-requires
-take-in-requires c κs = ?
+take-in-requires c κs = (c .before .before .before .before .before .before .before .before .before .before .before .before .before .before .before .pre .0, c .before .before .before .before .before .before .before .before .before .before .before .before .before .before .before .pre .1, subst (λ (n : ℕ). c .before .before .before .before .before .before .before .before .before .before .before .before .before .before .before .args .p .held + c .before .before .before .before .before .count .given .0 .0 ≤ n) (sym (c .before .before .before .before .before .before .before .before .input .given)) (bytes-fit (c .before .before .before .before .before .before .before .before .before .before .before .before .before .before .before .args .p .held) (length (c .before .before .before .before .before .before .before .before .before .before .before .before .before .before .before .args .input .now)) (c .before .before .before .before .before .count .given .1) (c .before .before .before .before .before .before .before .before .before .fetch .ensures .1)))
 
--- src/reading.rt:186:25
 enum-told : tie.Need-enum-told
 enum-told c = search needs
 
--- src/reading.rt:193:28
 enum-told-2 : tie.Need-enum-told-2
 enum-told-2 c = search needs
 
--- src/reading.rt:173:1
 same-length : tie.Need-same-length
 same-length c = search needs
 
--- src/reading.rt:173:1
 same-length-2 : tie.Need-same-length-2
 same-length-2 c = search needs
 
--- src/reading.rt:173:1
 same-length-3 : tie.Need-same-length-3
 same-length-3 c = search needs
 
--- src/reading.rt:173:1
 returns : tie.Need-returns
-returns c = ?
+returns c =
+    let a = c .before .before .before .before .before .before .before .before .before .before .before .before .before .before .before .before .before .before .before .before .before .before .args in
+    piece-came (a .table .now) (a .p .lines) (a .p .refused) (a .input .now) (a .p .held) (c .before .before .before .before .before .before .before .before .before .before .before .before .before .before .before .before .fetch .last .0) (c .before .before .before .before .before .before .before .before .before .before .before .before .before .before .before .before .fetch .ensures .0) (c .before .before .before .before .before .before .before .before .before .before .before .before .count .given .0 .0) (c .before .before .before .before .before .before .take-in .ensures)
 
--- src/reading.rt:173:1
 same-length-4 : tie.Need-same-length-4
 same-length-4 c = search needs
 
--- src/reading.rt:173:1
 returns-2 : tie.Need-returns-2
-returns-2 c = ?
+returns-2 c =
+    let a = c .before .before .before .before .before .before .before .before .before .before .args in
+    nothing-came (a .table .now) (a .p .lines) (a .p .refused) (a .input .now) (a .p .held) (c .before .before .before .before .fetch .last .0) (c .before .before .before .before .fetch .ensures .0) false (c .before .before .before .before .before .before .before .before .before .before .pre .0) (subst (λ (n : ℕ). a .p .held ≤ n) (sym (c .before .before .before .input .given)) (c .before .before .before .before .before .before .before .before .before .before .pre .2))
 
--- src/reading.rt:173:1
 same-length-5 : tie.Need-same-length-5
 same-length-5 c = search needs
 
--- src/reading.rt:173:1
 returns-3 : tie.Need-returns-3
-returns-3 c = ?
+returns-3 c =
+    let a = c .before .before .before .before .before .before .before .before .before .before .args in
+    nothing-came (a .table .now) (a .p .lines) (a .p .refused) (a .input .now) (a .p .held) (c .before .before .before .before .fetch .last .0) (c .before .before .before .before .fetch .ensures .0) true (c .before .before .before .before .before .before .before .before .before .before .pre .0) (subst (λ (n : ℕ). a .p .held ≤ n) (sym (c .before .before .before .input .given)) (c .before .before .before .before .before .before .before .before .before .before .pre .2))
 
 pub step-spec : {M : Type 1} → statement M
 step-spec =
