@@ -30,7 +30,7 @@ front-rest n k l h g =
     ∙ ap (drop n) (take-add n (k - n) l)
     ∙ drop-at (take n l) (take (k - n) (drop n l)) n (length-take-le n l (omega arith))
 
-not-failed : (b : Bool) → not b ≡ true → b ≡ false
+pub not-failed : (b : Bool) → not b ≡ true → b ≡ false
 not-failed true e = sym e
 not-failed false e = refl
 

@@ -48,15 +48,14 @@ fn follow(argument: &[u8]) {
     read_from(fd, argument);
 }
 
-// The argument of a number, in a buffer: how long it is, or, where it can't be had whole, that it is
-// told.
-fn follow_only(count: usize, buffer: &mut [u8]) {
-    let size = os::arg(count - 1, buffer);
+// Follows the last argument where it is the only one; else it is one too many.
+fn follow_last(last: usize, buffer: &mut [u8]) {
+    let size = os::arg(last, buffer);
     if os::errno() != 0 {
         fail(b"argument");
         return;
     }
-    if count == 2 {
+    if last == 1 {
         follow(&buffer[..size]);
     } else {
         tell(b"one argument too many: ", &buffer[..size]);
@@ -70,5 +69,5 @@ fn main() {
         return;
     }
     let mut buffer = io::buffer();
-    follow_only(count, &mut buffer);
+    follow_last(count - 1, &mut buffer);
 }

@@ -51,10 +51,10 @@ same-length-3 c = search needs
 
 returns-3 : tie.Need-returns-3
 returns-3 c = (
-    take-put (c .before .before .before .before .before .before .before .before .before .before .before .args .held) (length (c .before .before .before .before .before .before .before .before .before .before .before .args .input .now) - c .before .before .before .before .before .before .before .before .before .before .before .args .held) (c .before .before .before .before .before .before .before .before .before .before .before .args .input .now) (c .before .before .before .before .before .before .before .read .last .1 .0) (c .before .before .before .before .before .before .before .before .before .before .before .pre),
-    let size = same-len-mid (c .before .before .before .before .before .before .before .before .before .before .before .args .held) (length (c .before .before .before .before .before .before .before .before .before .before .before .args .input .now) - c .before .before .before .before .before .before .before .before .before .before .before .args .held) (c .before .before .before .before .before .before .before .before .before .before .before .args .input .now) (c .before .before .before .before .before .before .before .read .last .1 .0) (c .before .before .before .before .before .before .input .given .0) in
-    subst (λ (n : ℕ). c .before .before .before .before .before .before .before .before .before .before .before .args .held + c .before .count .result ≤ n) size (part-bound (c .before .before .before .before .before .before .before .before .before .before .before .args .held) (putMid (c .before .before .before .before .before .before .before .before .before .before .before .args .held) (length (c .before .before .before .before .before .before .before .before .before .before .before .args .input .now) - c .before .before .before .before .before .before .before .before .before .before .before .args .held) (c .before .before .before .before .before .before .before .before .before .before .before .args .input .now) (c .before .before .before .before .before .before .before .read .last .1 .0)) (c .before .count .result) (subst (λ (n : ℕ). c .before .before .before .before .before .before .before .before .before .before .before .args .held ≤ n) (sym size) (c .before .before .before .before .before .before .before .before .before .before .before .pre)) (c .before .count .ensures .0 .0)),
-  )
+  take-put (c .before .before .before .before .before .before .before .before .before .before .before .args .held) (length (c .before .before .before .before .before .before .before .before .before .before .before .args .input .now) - c .before .before .before .before .before .before .before .before .before .before .before .args .held) (c .before .before .before .before .before .before .before .before .before .before .before .args .input .now) (c .before .before .before .before .before .before .before .read .last .1 .0) (c .before .before .before .before .before .before .before .before .before .before .before .pre),
+  let size = same-len-mid (c .before .before .before .before .before .before .before .before .before .before .before .args .held) (length (c .before .before .before .before .before .before .before .before .before .before .before .args .input .now) - c .before .before .before .before .before .before .before .before .before .before .before .args .held) (c .before .before .before .before .before .before .before .before .before .before .before .args .input .now) (c .before .before .before .before .before .before .before .read .last .1 .0) (c .before .before .before .before .before .before .input .given .0) in
+      subst (λ (n : ℕ). c .before .before .before .before .before .before .before .before .before .before .before .args .held + c .before .count .result ≤ n) size (part-bound (c .before .before .before .before .before .before .before .before .before .before .before .args .held) (putMid (c .before .before .before .before .before .before .before .before .before .before .before .args .held) (length (c .before .before .before .before .before .before .before .before .before .before .before .args .input .now) - c .before .before .before .before .before .before .before .before .before .before .before .args .held) (c .before .before .before .before .before .before .before .before .before .before .before .args .input .now) (c .before .before .before .before .before .before .before .read .last .1 .0)) (c .before .count .result) (subst (λ (n : ℕ). c .before .before .before .before .before .before .before .before .before .before .before .args .held ≤ n) (sym size) (c .before .before .before .before .before .before .before .before .before .before .before .pre)) (c .before .count .ensures .0 .0)),
+)
 
 pub fetch-spec : {M : Type 1} → statement M
 fetch-spec =

@@ -1,84 +1,76 @@
+use Prim.Native.Nat.{ℕ, _≤_}
+use mathlib.Core.Path.{_≡_, refl, sym, subst, _∙_}
+use native.Mathlib.Omega.{arith}
+use lib.ListN.{length}
+use lib.Seq.{length-take-le}
+use Rattle.log.specs.Block.{lineRoom}
+use Rattle.logread.proofs.Endings.{end-printable}
+use Rattle.logread.proofs.Reached.{Standing, not-failed, standing-start, standing-next, stands-good, stands-most}
 use Rattle.logread.proofs.reading.print_log.Statement.{statement}
 use Rattle.logread.proofs.reading.print_log.Tie as tie
-use Rattle.logread.proofs.reading.print_log.Reads as reads
-use Rattle.logread.proofs.reading.print_log.Lts as lts
-use Rattle.logread.proofs.reading.print.Reads as print-reads
-use Rattle.logread.proofs.reading.put_end.Reads as put-end-reads
-use Rattle.logread.proofs.reading.step.Reads as step-reads
 
 abbrev Inv-loop : tie.InvT-loop
-Inv-loop table₀ input₀ out₀ fd name p₀ turns₀ table input out p turns = ?
+Inv-loop table₀ input₀ out₀ fd name p₀ turns₀ table input out p turns = Standing table input p × (length table ≡ length table₀) × (length input ≡ length input₀) × (length out ≡ length out₀)
 
 abbrev μ-loop : tie.MeasureT-loop
-μ-loop table₀ input₀ out₀ fd name p₀ turns₀ table input out p turns = ?
+μ-loop table₀ input₀ out₀ fd name p₀ turns₀ table input out p turns = turns
 
--- src/reading.rt:223:5
 loop-holds : tie.Need-loop-holds Inv-loop μ-loop
-loop-holds c = ?
+loop-holds c =
+    let a = c .before .before .before .before .args in
+    (rw (c .before .before .before .before .pre .0) (standing-start (a .input .now)), refl, refl, refl)
 
--- src/reading.rt:224:9
 step-requires : tie.Need-step-requires Inv-loop μ-loop
-step-requires c κs = ?
+step-requires c κs =
+    let a = c .before .before .before .before .before .loop .inv .0 .after (c .before .before .before .before .before .loop .inv .0 .on (c .before .before .before .if1 .taken)) in
+    (stands-good a, subst (λ (n : ℕ). lineRoom ≤ n) (sym (c .before .before .before .before .before .loop .inv .3)) (c .before .before .before .before .before .before .before .before .before .before .pre .1), stands-most a)
 
--- src/reading.rt:225:9
 sub-turns : tie.Need-sub-turns Inv-loop μ-loop
-sub-turns c = ?
+sub-turns c = c .before .before .before .before .before .before .before .before .before .before .before .loop-test .taken
 
--- src/reading.rt:223:5
 loop-less : tie.Need-loop-less Inv-loop μ-loop
-loop-less c = ?
+loop-less c = omega (arith, c .before .before .before .before .before .before .before .before .before .before .before .loop-test .taken)
 
--- src/reading.rt:223:5
 loop-again : tie.Need-loop-again Inv-loop μ-loop
-loop-again c = ?
+loop-again c =
+    let a = c .before .before .before .before .before .before .before .before .before .before .before .before .loop .inv .0 .after (c .before .before .before .before .before .before .before .before .before .before .before .before .loop .inv .0 .on (c .before .before .before .before .before .before .before .before .before .before .if1 .taken)) in
+    (standing-next a (c .before .before .before .before .before .before .step .ensures), c .before .before .before .before .before .table .given ∙ c .before .before .before .before .before .before .before .before .before .before .before .before .loop .inv .1, c .before .before .before .input .given ∙ c .before .before .before .before .before .before .before .before .before .before .before .before .loop .inv .2, c .before .out .given ∙ c .before .before .before .before .before .before .before .before .before .before .before .before .loop .inv .3)
 
--- src/reading.rt:228:13
 put-end-requires : tie.Need-put-end-requires Inv-loop μ-loop
-put-end-requires c κs = ?
+put-end-requires c κs = tt
 
--- src/reading.rt:229:15
 slice-reshare-prefix-print : tie.Need-slice-reshare-prefix-print Inv-loop μ-loop
-slice-reshare-prefix-print c = ?
+slice-reshare-prefix-print c = subst (λ (n : ℕ). c .before .before .put-end .result ≤ n) (sym (c .before .out2 .given)) (c .before .before .put-end .ensures .0)
 
--- src/reading.rt:229:15
 slice-aggregate-print : tie.Need-slice-aggregate-print Inv-loop μ-loop
-slice-aggregate-print c = ?
+slice-aggregate-print c = sym (length-take-le (c .before .before .before .put-end .result) (c .before .before .before .put-end .last .0) (subst (λ (n : ℕ). c .before .before .before .put-end .result ≤ n) (sym (c .before .before .out2 .given)) (c .before .before .before .put-end .ensures .0)))
 
--- src/reading.rt:229:9
 print-requires : tie.Need-print-requires Inv-loop μ-loop
-print-requires c κs = ?
+print-requires c κs = end-printable (length (c .before .before .before .before .before .before .before .before .loop .out)) (c .before .before .before .before .before .before .before .before .loop .inv .0 .after (not-failed (c .before .before .before .before .before .before .before .before .loop .p .«has_failed») (c .before .before .before .before .before .if2 .taken))) (c .before .before .before .put-end .ensures .1)
 
--- src/reading.rt:212:1
 same-length : tie.Need-same-length Inv-loop μ-loop
-same-length c = ?
+same-length c = c .before .before .before .before .before .before .before .before .before .loop .inv .1
 
--- src/reading.rt:212:1
 same-length-2 : tie.Need-same-length-2 Inv-loop μ-loop
-same-length-2 c = ?
+same-length-2 c = c .before .before .before .before .before .before .before .before .before .loop .inv .2
 
--- src/reading.rt:212:1
 same-length-3 : tie.Need-same-length-3 Inv-loop μ-loop
-same-length-3 c = ?
+same-length-3 c = c .before .before .before .out2 .given ∙ c .before .before .before .before .before .before .before .before .before .loop .inv .3
 
--- src/reading.rt:212:1
 returns : tie.Need-returns Inv-loop μ-loop
-returns c = ?
+returns c = tt
 
--- src/reading.rt:212:1
 same-length-4 : tie.Need-same-length-4 Inv-loop μ-loop
-same-length-4 c = ?
+same-length-4 c = c .before .before .before .loop .inv .1
 
--- src/reading.rt:212:1
 same-length-5 : tie.Need-same-length-5 Inv-loop μ-loop
-same-length-5 c = ?
+same-length-5 c = c .before .before .before .loop .inv .2
 
--- src/reading.rt:212:1
 same-length-6 : tie.Need-same-length-6 Inv-loop μ-loop
-same-length-6 c = ?
+same-length-6 c = c .before .before .before .loop .inv .3
 
--- src/reading.rt:212:1
 returns-2 : tie.Need-returns-2 Inv-loop μ-loop
-returns-2 c = ?
+returns-2 c = tt
 
 pub print-log-spec : {M : Type 1} → statement M
 print-log-spec =
