@@ -180,3 +180,12 @@ fn late_answers_of_the_hour() {
     assert_eq!(stages[1].1, [598, 451, 287, 140, 36]);
     assert_eq!(stages[3].1, [454, 461, 489, 530]);
 }
+
+/// The stored run of the product's log reader: records of every refusal and form, and a short last piece.
+#[test]
+fn the_stored_run() {
+    let log = &every(1, 601)[..600 * LOG_RECORD + 77];
+    let [input, output] = ["crates/logread/stdin", "crates/logread/stdout"].map(|path| fs::read(file(path)));
+    assert!(input.expect("the stored input") == log);
+    assert!(output.expect("the stored output") == printed(log).as_bytes());
+}
