@@ -181,6 +181,29 @@ fn late_answers_of_the_hour() {
     assert_eq!(stages[3].1, [454, 461, 489, 530]);
 }
 
+/// Each line that the README's walk through the hour shows, first in a row of a table, is one that is printed.
+#[test]
+fn the_readme_shows_lines_of_the_hour() {
+    let readme = fs::read_to_string(file("README.md")).expect("the README");
+    let text = printed(&hour());
+    let mut printed = text.lines();
+    let shown = readme
+        .lines()
+        .filter_map(|row| row.strip_prefix("| `")?.split_once("` |"))
+        .map(|(line, _)| line)
+        .filter(|line| line.starts_with("total ") || line.starts_with(|first: char| first.is_ascii_digit()));
+    let mut count = 0;
+    for line in shown {
+        // In the order of the log.
+        assert!(
+            printed.any(|it| it == line),
+            "`{line}` is not printed, or not in this order"
+        );
+        count += 1;
+    }
+    assert!(count >= 12, "{count} lines");
+}
+
 /// The stored run of the product's log reader: records of every refusal and form, and a short last piece.
 #[test]
 fn the_stored_run() {
