@@ -310,7 +310,7 @@ impl Hour {
         self.at(59, 59);
         self.down(Form::HubAction, &[0x01]);
         self.up(Form::HubAction, &[0x30]);
-        // 10: it was on its way when the hub took its leave.
+        // 10: it comes after the notice.
         self.wide(MOTOR_A, &[0]);
     }
 
