@@ -21,6 +21,28 @@ pub(crate) fn print_usage() {
     let is_written = io::write_all(
         STDOUT_FILENO,
         b"usage: logread [FILE]
+
+Reads the log of one hub, from FILE or else from standard input, and prints a
+line for each of its records, and the totals.
+
+A record is 136 bytes: the time in ms (4 bytes, the lowest first), the
+direction (0 to the hub, 1 from it), 3 zeros, and 128 bytes for the message,
+with zeros after it.
+
+A line is the number of the record, from 1, and its refusal: 0 if it is
+accepted, else the number of the reason, as README.md lists them. For an
+accepted value it goes on with
+  the port
+  the mode, which is the one that the hub last answered
+  the state: 0 nothing was asked
+             1 asked, and not answered since: the value is in the old mode
+             2 answered as asked
+             3 answered otherwise
+  the datasets: whole numbers, and floats as their 32 bits
+
+The totals are the number of records and how many of them are refused.
+If a read or a write fails, it is told on standard error, and there are no
+totals: a log without totals is incomplete.
 ",
     );
     if !is_written {

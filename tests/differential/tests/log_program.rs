@@ -1,64 +1,39 @@
 //! The product's log reader prints what the second program's prints, byte for byte. The seeds are fixed, so every run
 //! reads the same logs.
 
-use std::fs::{self, File};
-use std::io::Write;
-use std::path::{Path, PathBuf};
-use std::process::{Command, Output, Stdio};
+use std::io::{pipe, Write};
+use std::process::Output;
 use std::thread;
 
-use differential::Random;
+use differential::{logread, run, wanted, Random};
 use yardstick::examples::bytes;
-use yardstick::make_log::{bench_log, every_log};
-use yardstick::{log_record, read_log, Way, LOG_RECORD};
-
-fn root() -> PathBuf {
-    let manifest = Path::new(env!("CARGO_MANIFEST_DIR"));
-    manifest.ancestors().nth(2).expect("two folders below the root").to_owned()
-}
-
-/// The product's log reader, which the check of the crates builds.
-fn logread() -> Command {
-    let program = root().join("target/bin/logread");
-    assert!(program.exists(), "{} doesn't exist: `rt check logread` builds it", program.display());
-    Command::new(program)
-}
+use yardstick::make_log::{bench_log, every_log, hour_log};
+use yardstick::{log_record, Way, LOG_RECORD};
 
 /// What the product prints of a log that comes in pieces of these sizes, over and over.
 fn printed_in_pieces(log: &[u8], sizes: &[usize]) -> Output {
-    let mut reader = logread()
-        .stdin(Stdio::piped())
-        .stdout(Stdio::piped())
-        .stderr(Stdio::piped())
-        .spawn()
-        .expect("the log reader runs");
-    let mut input = reader.stdin.take().expect("its input is a pipe");
+    let (reader, mut writer) = pipe().expect("a pipe");
     let (log, sizes) = (log.to_vec(), sizes.to_vec());
-    let writer = thread::spawn(move || {
+    let writing = thread::spawn(move || {
         let mut rest = &log[..];
         for size in sizes.iter().cycle() {
             if rest.is_empty() {
                 break;
             }
             let (piece, later) = rest.split_at(rest.len().min(*size));
-            input.write_all(piece).expect("the log reader takes all of its input");
+            writer.write_all(piece).expect("the log reader takes all of its input");
             rest = later;
         }
     });
-    let output = reader.wait_with_output().expect("the log reader ends");
-    writer.join().expect("the writer ends");
+    let mut program = logread();
+    program.stdin(reader);
+    let output = run(program);
+    writing.join().expect("the writing ends");
     output
 }
 
 fn printed(log: &[u8]) -> Output {
     printed_in_pieces(log, &[log.len().max(1)])
-}
-
-/// What the second program prints of a log.
-fn wanted(log: &[u8]) -> Vec<u8> {
-    let mut lines = Vec::new();
-    read_log(log, &mut lines).expect("reading from memory");
-    lines
 }
 
 /// Counts lines by their refusal.
@@ -79,16 +54,28 @@ impl Lines {
     }
 
     fn print(&self, name: &str) {
-        println!("{name}: lines by refusal {:?}, with values {}", self.by_refusal, self.values);
+        println!(
+            "{name}: lines by refusal {:?}, with values {}",
+            self.by_refusal, self.values
+        );
     }
 }
 
+/// The output is what the second program prints of the log, and nothing is told.
+#[track_caller]
+fn agrees(output: &Output, log: &[u8], what: &str) {
+    let told = String::from_utf8_lossy(&output.stderr);
+    assert_eq!(told, "", "{what}: something on standard error");
+    assert!(
+        output.stdout == wanted(log),
+        "{what}: other lines than the second program's"
+    );
+}
+
+#[track_caller]
 fn compare(log: &[u8], lines: &mut Lines, what: &str) {
-    let output = printed(log);
-    let wanted = wanted(log);
-    assert!(output.stderr.is_empty(), "{what}: something on standard error");
-    assert!(output.stdout == wanted, "{what}: other lines than the second program's");
-    lines.add(&wanted);
+    agrees(&printed(log), log, what);
+    lines.add(&wanted(log));
 }
 
 #[test]
@@ -101,13 +88,28 @@ fn example() {
         (Way::Up, "0A 00 47 00 02 01 00 00 00 01"),
         (Way::Up, "08 00 45 00 05 00 00 00"),
     ];
-    let log: Vec<u8> = messages.iter().flat_map(|(way, message)| log_record(7, *way, &bytes(message))).collect();
+    let log: Vec<u8> = messages
+        .iter()
+        .flat_map(|(way, message)| log_record(7, *way, &bytes(message)))
+        .collect();
     let output = printed(&log);
     assert_eq!(
         String::from_utf8_lossy(&output.stdout),
         "1 0\n2 0\n3 14\n4 0\n5 0\n6 0 0 2 2 5\ntotal 6 refused 1\n"
     );
-    assert_eq!(String::from_utf8_lossy(&printed(&[]).stdout), "total 0 refused 0\n");
+    assert_eq!(String::from_utf8_lossy(&output.stderr), "");
+    let output = printed(&[]);
+    assert_eq!(String::from_utf8_lossy(&output.stdout), "total 0 refused 0\n");
+    assert_eq!(String::from_utf8_lossy(&output.stderr), "");
+}
+
+#[test]
+fn hour() {
+    let mut log = Vec::new();
+    hour_log(&mut log).expect("writing to memory");
+    let mut lines = Lines::default();
+    compare(&log, &mut lines, "hour");
+    lines.print("hour");
 }
 
 #[test]
@@ -182,26 +184,9 @@ fn slow_pipes() {
     let mut log = Vec::new();
     every_log(51, 60, &mut log).expect("writing to memory");
     log.truncate(log.len() - 5);
-    assert!(printed_in_pieces(&log, &[1]).stdout == wanted(&log), "one byte at a time");
+    agrees(&printed_in_pieces(&log, &[1]), &log, "one byte at a time");
     bench_log(52, 3000, &mut log).expect("writing to memory");
     for sizes in [&[135, 1][..], &[137], &[4096, 3, 65536], &[65535], &[65537], &[100_000]] {
-        assert!(printed_in_pieces(&log, sizes).stdout == wanted(&log), "pieces of {sizes:?}");
+        agrees(&printed_in_pieces(&log, sizes), &log, &format!("pieces of {sizes:?}"));
     }
-}
-
-#[test]
-fn failed_reads_and_writes() {
-    // A folder can be opened and not read.
-    let folder = File::open(root()).expect("the root opens");
-    let output = logread().stdin(folder).output().expect("the log reader runs");
-    assert_eq!(String::from_utf8_lossy(&output.stdout), "total 0 refused 0\n");
-    assert!(!output.stderr.is_empty());
-    let full = fs::OpenOptions::new().write(true).open("/dev/full").expect("a device that is always full");
-    let mut log = Vec::new();
-    bench_log(61, 100, &mut log).expect("writing to memory");
-    let path = Path::new(env!("CARGO_TARGET_TMPDIR")).join("full.log");
-    fs::write(&path, &log).expect("the log is stored");
-    let stored = File::open(&path).expect("the log opens");
-    let output = logread().stdin(stored).stdout(full).output().expect("the log reader runs");
-    assert!(!output.stderr.is_empty());
 }

@@ -1,8 +1,10 @@
 //! The logs that are made are what they say.
 
 use std::collections::BTreeSet;
+use std::fs;
+use std::path::{Path, PathBuf};
 
-use yardstick::make_log::{bench_log, every_log};
+use yardstick::make_log::{bench_log, every_log, hour_log};
 use yardstick::{decode, log_message, read_log, Form, Table, LOG_RECORD};
 
 fn bench(seed: u64, records: u64) -> Vec<u8> {
@@ -17,11 +19,29 @@ fn every(seed: u64, records: u64) -> Vec<u8> {
     log
 }
 
-/// The lines that the log reader prints, as numbers, without the totals.
-fn lines(log: &[u8]) -> Vec<Vec<u64>> {
+fn hour() -> Vec<u8> {
+    let mut log = Vec::new();
+    hour_log(&mut log).expect("writing to memory");
+    log
+}
+
+/// A file of the repository.
+fn file(path: &str) -> PathBuf {
+    let manifest = Path::new(env!("CARGO_MANIFEST_DIR"));
+    let root = manifest.ancestors().nth(2).expect("two folders below the root");
+    root.join(path)
+}
+
+/// What the log reader prints.
+fn printed(log: &[u8]) -> String {
     let mut output = Vec::new();
     read_log(log, &mut output).expect("reading from memory");
-    let text = String::from_utf8(output).expect("lines are text");
+    String::from_utf8(output).expect("lines are text")
+}
+
+/// The lines that the log reader prints, as numbers, without the totals.
+fn lines(log: &[u8]) -> Vec<Vec<u64>> {
+    let text = printed(log);
     let mut lines: Vec<&str> = text.lines().collect();
     let totals = lines.pop().expect("totals");
     let numbers = |line: &&str| line.split(' ').map(|it| it.parse().expect("a number")).collect();
@@ -102,4 +122,93 @@ fn every_form_and_refusal() {
     let random_part = &lines(&log)[100..];
     let refusals: BTreeSet<u64> = random_part.iter().map(|line| line[1]).collect();
     assert_eq!(refusals, all);
+}
+
+/// The log in `examples/` is the one that is made, whole.
+#[test]
+fn the_hour_is_stored() {
+    let stored = fs::read(file("examples/bench.log")).expect("the stored hour");
+    assert!(stored == hour(), "`make-log hour > examples/bench.log` stores it anew");
+}
+
+/// The times of the hour go forward, from its start to its end.
+#[test]
+fn the_hour_is_an_hour() {
+    let log = hour();
+    let times: Vec<u32> = log
+        .chunks(LOG_RECORD)
+        .map(|record| u32::from_le_bytes(record[..4].try_into().expect("four bytes")))
+        .collect();
+    assert!(times.is_sorted());
+    assert_eq!(times[0], 0);
+    assert!((3_590_000..3_600_000).contains(times.last().expect("a last record")));
+    assert!((150..=240).contains(&times.len()), "{} records", times.len());
+}
+
+/// It shows every state, numbers of every width but one byte, one to three datasets, and the refusals of its story.
+#[test]
+fn what_the_hour_shows() {
+    let log = hour();
+    let lines = lines(&log);
+    let values = lines.iter().filter(|line| line.len() > 2);
+    let states: BTreeSet<u64> = values.clone().map(|line| line[4]).collect();
+    assert_eq!(states, [0, 1, 2, 3].into());
+    let sizes: BTreeSet<usize> = values.map(|line| line.len() - 5).collect();
+    assert_eq!(sizes, [1, 2, 3].into());
+    let refusals: Vec<u64> = lines.iter().map(|line| line[1]).filter(|&it| it != 0).collect();
+    assert_eq!(refusals, [14, 14, 15, 5, 5, 18, 16, 19, 5, 10, 12, 14, 15, 10]);
+}
+
+/// Between a 41 and its 47 the values of motor A are in the old mode and in state 1, both times; before and after they
+/// are in state 2.
+#[test]
+fn late_answers_of_the_hour() {
+    let motor_a: Vec<[u64; 3]> = lines(&hour())
+        .iter()
+        .filter(|line| line.len() > 2 && line[2] == 0)
+        .map(|line| [line[3], line[4], line[5]])
+        .collect();
+    let mut stages: Vec<([u64; 2], Vec<u64>)> = Vec::new();
+    for [mode, state, number] in motor_a {
+        match stages.last_mut() {
+            Some((stage, numbers)) if *stage == [mode, state] => numbers.push(number),
+            _ => stages.push(([mode, state], vec![number])),
+        }
+    }
+    let order: Vec<[u64; 2]> = stages.iter().map(|&(stage, _)| stage).collect();
+    assert_eq!(order, [[1, 2], [1, 1], [2, 2], [2, 1], [1, 2]]);
+    assert_eq!(stages[1].1, [598, 451, 287, 140, 36]);
+    assert_eq!(stages[3].1, [454, 461, 489, 530]);
+}
+
+/// Each line that the README's walk through the hour shows, first in a row of a table, is one that is printed.
+#[test]
+fn the_readme_shows_lines_of_the_hour() {
+    let readme = fs::read_to_string(file("README.md")).expect("the README");
+    let text = printed(&hour());
+    let mut printed = text.lines();
+    let shown = readme
+        .lines()
+        .filter_map(|row| row.strip_prefix("| `")?.split_once("` |"))
+        .map(|(line, _)| line)
+        .filter(|line| line.starts_with("total ") || line.starts_with(|first: char| first.is_ascii_digit()));
+    let mut count = 0;
+    for line in shown {
+        // In the order of the log.
+        assert!(
+            printed.any(|it| it == line),
+            "`{line}` is not printed, or not in this order"
+        );
+        count += 1;
+    }
+    assert!(count >= 12, "{count} lines");
+}
+
+/// The stored run of the product's log reader: records of every refusal and form, and a short last piece.
+#[test]
+fn the_stored_run() {
+    let log = &every(1, 601)[..600 * LOG_RECORD + 77];
+    let [input, output] = ["crates/logread/stdin", "crates/logread/stdout"].map(|path| fs::read(file(path)));
+    assert!(input.expect("the stored input") == log);
+    assert!(output.expect("the stored output") == printed(log).as_bytes());
 }

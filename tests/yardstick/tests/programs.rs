@@ -4,7 +4,7 @@ use std::io::Write;
 use std::process::{Command, Output, Stdio};
 use std::thread;
 
-use yardstick::make_log::{bench_log, every_log};
+use yardstick::make_log::{bench_log, every_log, hour_log};
 use yardstick::read_log;
 
 fn make_log(arguments: &[&str]) -> Output {
@@ -29,17 +29,22 @@ fn yardstick_log(log: Vec<u8>) -> Output {
 
 #[test]
 fn logs_are_made_and_read() {
-    let [mut bench, mut every] = [Vec::new(), Vec::new()];
+    let [mut hour, mut bench, mut every] = [Vec::new(), Vec::new(), Vec::new()];
+    hour_log(&mut hour).expect("writing to memory");
     bench_log(21, 3000, &mut bench).expect("writing to memory");
     every_log(22, 3000, &mut every).expect("writing to memory");
     // A short last piece too.
     let pieces = every[..every.len() - 1].to_vec();
-    for (arguments, log) in [(["bench", "21", "3000"], &bench), (["every", "22", "3000"], &every)] {
-        let made = make_log(&arguments);
+    for (arguments, log) in [
+        (&["hour"][..], &hour),
+        (&["bench", "21", "3000"], &bench),
+        (&["every", "22", "3000"], &every),
+    ] {
+        let made = make_log(arguments);
         assert!(made.status.success(), "{arguments:?}");
         assert!(made.stdout == *log, "{arguments:?}");
     }
-    for log in [bench, every, pieces, Vec::new()] {
+    for log in [hour, bench, every, pieces, Vec::new()] {
         let mut lines = Vec::new();
         read_log(&log[..], &mut lines).expect("reading from memory");
         let output = yardstick_log(log);
@@ -52,6 +57,8 @@ fn logs_are_made_and_read() {
 fn wrong_arguments() {
     for arguments in [
         &[][..],
+        &["hour", "1"],
+        &["hour", "1", "2"],
         &["bench"],
         &["bench", "1"],
         &["bench", "1", "many"],

@@ -1,13 +1,13 @@
-//! Writes a log to the standard output: `make-log bench SEED RECORDS` as a bench makes it,
-//! `make-log every SEED RECORDS` with every form and every refusal that a log can show.
+//! Writes a log to the standard output: `make-log hour` an hour at a bench, always the same, `make-log bench SEED RECORDS`
+//! as a bench makes it, `make-log every SEED RECORDS` with every form and every refusal that a log can show.
 
 use std::env;
 use std::io::{self, stdout};
 use std::process::ExitCode;
 
-use yardstick::make_log::{bench_log, every_log};
+use yardstick::make_log::{bench_log, every_log, hour_log};
 
-const USAGE: &str = "make-log bench|every SEED RECORDS";
+const USAGE: &str = "make-log hour\nmake-log bench|every SEED RECORDS";
 
 fn main() -> ExitCode {
     let arguments: Vec<String> = env::args().skip(1).collect();
@@ -26,8 +26,11 @@ fn main() -> ExitCode {
 
 /// Makes the log, unless the arguments are others than in the usage.
 fn make(arguments: &[String]) -> Option<io::Result<()>> {
-    let [sort, seed, records] = arguments else {
+    let [sort, numbers @ ..] = arguments else {
         return None;
+    };
+    let [seed, records] = numbers else {
+        return (sort == "hour" && numbers.is_empty()).then(|| hour_log(stdout().lock()));
     };
     let seed = seed.parse().ok()?;
     let records = records.parse().ok()?;

@@ -3,6 +3,7 @@
 mod bench;
 mod devices;
 mod every;
+mod hour;
 mod opening;
 
 use std::io::{self, BufWriter, Write};
@@ -10,6 +11,7 @@ use std::io::{self, BufWriter, Write};
 use crate::log::LOG_RECORD;
 use bench::Bench;
 use every::Every;
+use hour::hour;
 
 /// Writes a log as a bench makes it: a hub with motors and sensors whose modes change now and then. In a log of a
 /// thousand records or more, at least half are accepted 45s.
@@ -22,6 +24,13 @@ pub fn bench_log(seed: u64, records: u64, output: impl Write) -> io::Result<()> 
 pub fn every_log(seed: u64, records: u64, output: impl Write) -> io::Result<()> {
     let mut every = Every::new(seed);
     write_log(records, output, || every.next_record())
+}
+
+/// Writes the log of an hour at a bench, always the same. It shows every state of a value, and refusals that a bench
+/// gives.
+pub fn hour_log(mut output: impl Write) -> io::Result<()> {
+    output.write_all(hour().as_flattened())?;
+    output.flush()
 }
 
 fn write_log(records: u64, output: impl Write, mut next: impl FnMut() -> [u8; LOG_RECORD]) -> io::Result<()> {
