@@ -10,8 +10,8 @@ use Rattle.protocol.specs.Encode.{encoded, refused}
 use Rattle.writer.specs.Writing.{limited}
 use Rattle.protocol.proofs.Overwrite.{overwrite-then}
 use Rattle.protocol.specs.Overwrite.{overwrite}
-use Rattle.writer.specs.Slot.{slotsBytes, typePlace, messageBytes}
-use Rattle.writer.specs.declared.slot.Slot.{Slot}
+use Rattle.writer.specs.Slots.{slotsBytes, typePlace, messageBytes}
+use Rattle.slots.specs.declared.Slot.{Slot}
 
 -- at the front
 front : (out bytes : List ℕ) → overwrite out 0 bytes ≡ bytes ++ drop (length bytes) out

@@ -6,9 +6,9 @@ use borrow.Author.Needs.{needs}
 use borrow.Author.Tests.{not-true, not-false}
 use lib.ListN.{length, drop, drop-of-length-le}
 use Rattle.writer.proofs.Walk.{outside-here, inside-here}
-use Rattle.writer.specs.Slot.{firstOutside, typePlace}
-use Rattle.writer.specs.declared.slot.Slot.{Slot}
-use Rattle.writer.specs.declared.slot.Slot.the-variants as Slot'
+use Rattle.writer.specs.Slots.{firstOutside, typePlace}
+use Rattle.slots.specs.declared.Slot.{Slot}
+use Rattle.slots.specs.declared.Slot.the-variants as Slot'
 use Rattle.writer.proofs.first_outside.Statement.{statement}
 use Rattle.writer.proofs.first_outside.Tie as tie
 

@@ -9,7 +9,7 @@ use Rattle.writer.specs.Writing.{writtenOf, lentAfter}
 use Rattle.protocol.specs.declared.Written.the-variants.{Length}
 use Rattle.writer.proofs.Whole.{size-is, too-short, long-enough, header-length, message-put}
 use Rattle.protocol.specs.Overwrite.{overwrite}
-use Rattle.writer.specs.Slot.{typePlace}
+use Rattle.writer.specs.Slots.{typePlace}
 use borrow.Author.Needs.{needs}
 use Rattle.writer.proofs.put_message.Statement.{statement}
 use Rattle.writer.proofs.put_message.Tie as tie

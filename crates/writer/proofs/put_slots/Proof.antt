@@ -8,9 +8,10 @@ use lib.Seq.{take-all}
 use Rattle.protocol.proofs.Overwrite.{overwrite-nothing}
 use Rattle.writer.proofs.Walk.{Put, put-here, put-one, put-length}
 use Rattle.protocol.specs.Overwrite.{overwrite}
-use Rattle.writer.specs.Slot.{slotBytes, slotsBytes, typePlace}
-use Rattle.writer.specs.declared.slot.Slot.{Slot}
-use Rattle.writer.specs.declared.slot.Slot.the-variants as Slot'
+use Rattle.slots.specs.Slot.{slotBytes}
+use Rattle.writer.specs.Slots.{slotsBytes, typePlace}
+use Rattle.slots.specs.declared.Slot.{Slot}
+use Rattle.slots.specs.declared.Slot.the-variants as Slot'
 use Rattle.writer.proofs.put_slots.Statement.{statement}
 use Rattle.writer.proofs.put_slots.Tie as tie
 

@@ -4,7 +4,7 @@ use lib.ListN.{length}
 use Rattle.protocol.proofs.RoundTrip.{written-short}
 use Rattle.protocol.specs.Encode.{Encoded, refused}
 use Rattle.writer.specs.Writing.{limited, writtenOf, lentAfter}
-use Rattle.writer.proofs.Choices.{by-choice, chosen}
+use Rattle.selectors.proofs.Choices.{by-choice, chosen}
 use Rattle.writer.proofs.Encoding.{wrong-size, a-field-outside, all-inside, refused-answer}
 use borrow.Author.Needs.{needs}
 use Rattle.writer.proofs.write.Statement.{statement}

@@ -1,0 +1,45 @@
+use Rattle.slots.proofs.Rows.{combination-slots}
+use borrow.Author.Needs.{needs}
+use Rattle.slots.proofs.form.combination_row.Statement.{statement}
+use Rattle.slots.proofs.form.combination_row.Tie as tie
+
+word-requires : tie.Need-word-requires
+word-requires c κs = search needs
+
+word-requires-2 : tie.Need-word-requires-2
+word-requires-2 c κs = search needs
+
+word-requires-3 : tie.Need-word-requires-3
+word-requires-3 c κs = search needs
+
+word-requires-4 : tie.Need-word-requires-4
+word-requires-4 c κs = search needs
+
+word-requires-5 : tie.Need-word-requires-5
+word-requires-5 c κs = search needs
+
+word-requires-6 : tie.Need-word-requires-6
+word-requires-6 c κs = search needs
+
+word-requires-7 : tie.Need-word-requires-7
+word-requires-7 c κs = search needs
+
+word-requires-8 : tie.Need-word-requires-8
+word-requires-8 c κs = search needs
+
+returns : tie.Need-returns
+returns c = rw (c .before .before .before .before .before .before .before .word .ensures, c .before .before .before .before .before .before .word2 .ensures, c .before .before .before .before .before .word3 .ensures, c .before .before .before .before .word4 .ensures, c .before .before .before .word5 .ensures, c .before .before .word6 .ensures, c .before .word7 .ensures, c .word8 .ensures) (combination-slots (c .before .before .before .before .before .before .before .before .args .port) (c .before .before .before .before .before .before .before .before .args .c .entry0) (c .before .before .before .before .before .before .before .before .args .c .entry1) (c .before .before .before .before .before .before .before .before .args .c .entry2) (c .before .before .before .before .before .before .before .before .args .c .entry3) (c .before .before .before .before .before .before .before .before .args .c .entry4) (c .before .before .before .before .before .before .before .before .args .c .entry5) (c .before .before .before .before .before .before .before .before .args .c .entry6) (c .before .before .before .before .before .before .before .before .args .c .entry7) (c .before .before .before .before .before .before .before .before .args .c .count))
+
+pub combination-row-spec : {M : Type 1} → statement M
+combination-row-spec =
+    tie.close
+    (tie.spec
+    word-requires
+    word-requires-2
+    word-requires-3
+    word-requires-4
+    word-requires-5
+    word-requires-6
+    word-requires-7
+    word-requires-8
+    returns)
