@@ -58,5 +58,5 @@ module _ (port e0 e1 e2 e3 e4 e5 e6 e7 : ℕ) where
       ⊎-elim (λ (yes : leb n 8 ≡ true). few n (leb-true n 8 yes)) (λ (no : leb n 8 ≡ false). many n (leb-false n 8 no) no) (which (leb n 8))
 
 -- slots and a message that are known by equations
-pub slotted : (m n : Message) (r s : List Slot) → m ≡ n → r ≡ s → Slotted n s → Slotted m r
-slotted m n r s e k x = rw (e, k) x
+pub slotted : {m n : Message} {r s : List Slot} → m ≡ n → r ≡ s → Slotted n s → Slotted m r
+slotted e k x = rw (e, k) x

@@ -3,11 +3,11 @@ use lib.ListN.{length}
 use Rattle.protocol.specs.Encode.{Encoded, encode}
 use Rattle.writer.specs.Writing.{limited, lentAfter}
 use Rattle.protocol.specs.declared.Way.{Way}
-use Rattle.message_cells.specs.Row.{wayOf}
-use Rattle.message_cells.specs.FromRow.{messageFromRow}
+use Rattle.message_rows.specs.Row.{wayOf}
+use Rattle.row_messages.specs.FromRow.{messageFromRow}
 use Rattle.capi.specs.Written.{writtenFrom, answerNumber}
-use Rattle.message_cells.specs.declared.from_row.FromRow.{FromRow}
-use Rattle.message_cells.specs.declared.from_row.FromRow.the-variants.{Found, Nothing}
+use Rattle.row_messages.specs.declared.FromRow.{FromRow}
+use Rattle.row_messages.specs.declared.FromRow.the-variants.{Found, Nothing}
 use borrow.Author.Needs.{needs}
 use Rattle.capi.proofs.castanetash_write.Statement.{statement}
 use Rattle.capi.proofs.castanetash_write.Tie as tie
@@ -35,20 +35,26 @@ number-of-requires c κs = search needs
 
 returns : tie.Need-returns
 returns c =
-    let none : messageFromRow (c .before .before .before .before .before .before .args .cells .now) ≡ Nothing = sym (c .before .before .find .ensures) ∙ c .enum-told .given .1 in
-    (sym (ap (λ (g : FromRow). answerNumber (writtenFrom g (length (c .before .before .before .before .before .before .args .out .now)) (wayOf (c .before .before .before .before .before .before .args .way)) (c .before .before .before .before .before .before .args .«open» .now))) none), sym (ap (λ (g : FromRow). lentAfter (writtenFrom g (length (c .before .before .before .before .before .before .args .out .now)) (wayOf (c .before .before .before .before .before .before .args .way)) (c .before .before .before .before .before .before .args .«open» .now)) (c .before .before .before .before .before .before .args .out .now)) none))
+    let a = c .before .before .before .before .before .before .args in
+    let none : messageFromRow (a .cells .now) ≡ Nothing = sym (c .before .before .find .ensures) ∙ c .enum-told .given .1 in
+    (sym (ap (λ (g : FromRow). answerNumber (writtenFrom g (length (a .out .now)) (wayOf (a .way)) (a .«open» .now))) none), sym (ap (λ (g : FromRow). lentAfter (writtenFrom g (length (a .out .now)) (wayOf (a .way)) (a .«open» .now)) (a .out .now)) none))
 
 same-length : tie.Need-same-length
 same-length c = search needs
 
 returns-2 : tie.Need-returns-2
 returns-2 c =
-    let found : messageFromRow (c .before .before .before .before .before .before .before .before .before .before .before .before .before .args .cells .now) ≡ Found (c .before .before .before .before .before .before .before .m .given .0 .0) = sym (c .before .before .before .before .before .before .before .before .before .find .ensures) ∙ c .before .before .before .before .before .before .before .m .given .1 in
-    let way : c .before .before .before .before .before .way-of .result ≡ wayOf (c .before .before .before .before .before .before .before .before .before .before .before .before .before .args .way) = c .before .before .before .before .before .way-of .ensures in
-    let e : Encoded = limited (length (c .before .before .before .before .before .before .before .before .before .before .before .before .before .args .out .now)) (encode (c .before .before .before .before .before .way-of .result) (c .before .before .before .before .before .before .before .m .given .0 .0) (c .before .before .before .before .before .before .before .before .before .before .before .before .before .args .«open» .now)) in
-    let same : e ≡ limited (length (c .before .before .before .before .before .before .before .before .before .before .before .before .before .args .out .now)) (encode (wayOf (c .before .before .before .before .before .before .before .before .before .before .before .before .before .args .way)) (c .before .before .before .before .before .before .before .m .given .0 .0) (c .before .before .before .before .before .before .before .before .before .before .before .before .before .args .«open» .now)) = ap (λ (w : Way). limited (length (c .before .before .before .before .before .before .before .before .before .before .before .before .before .args .out .now)) (encode w (c .before .before .before .before .before .before .before .m .given .0 .0) (c .before .before .before .before .before .before .before .before .before .before .before .before .before .args .«open» .now))) way in (
-      c .number-of .ensures e (c .before .before .before .write .ensures .0) ∙ ap answerNumber same ∙ sym (ap (λ (g : FromRow). answerNumber (writtenFrom g (length (c .before .before .before .before .before .before .before .before .before .before .before .before .before .args .out .now)) (wayOf (c .before .before .before .before .before .before .before .before .before .before .before .before .before .args .way)) (c .before .before .before .before .before .before .before .before .before .before .before .before .before .args .«open» .now))) found),
-      c .before .before .before .write .ensures .1 ∙ ap (λ (d : Encoded). lentAfter d (c .before .before .before .before .before .before .before .before .before .before .before .before .before .args .out .now)) same ∙ sym (ap (λ (g : FromRow). lentAfter (writtenFrom g (length (c .before .before .before .before .before .before .before .before .before .before .before .before .before .args .out .now)) (wayOf (c .before .before .before .before .before .before .before .before .before .before .before .before .before .args .way)) (c .before .before .before .before .before .before .before .before .before .before .before .before .before .args .«open» .now)) (c .before .before .before .before .before .before .before .before .before .before .before .before .before .args .out .now)) found),
+    let m = c .before .before .before .before .before .before .before .m in
+    let a = c .before .before .before .before .before .before .before .before .before .before .before .before .before .args in
+    let f = m .given .0 in
+    let way-of = c .before .before .before .before .before .way-of in
+    let write = c .before .before .before .write in
+    let found : messageFromRow (a .cells .now) ≡ Found (f .0) = sym (c .before .before .before .before .before .before .before .before .before .find .ensures) ∙ m .given .1 in
+    let way : way-of .result ≡ wayOf (a .way) = way-of .ensures in
+    let e : Encoded = limited (length (a .out .now)) (encode (way-of .result) (f .0) (a .«open» .now)) in
+    let same : e ≡ limited (length (a .out .now)) (encode (wayOf (a .way)) (f .0) (a .«open» .now)) = ap (λ (w : Way). limited (length (a .out .now)) (encode w (f .0) (a .«open» .now))) way in (
+      c .number-of .ensures e (write .ensures .0) ∙ ap answerNumber same ∙ sym (ap (λ (g : FromRow). answerNumber (writtenFrom g (length (a .out .now)) (wayOf (a .way)) (a .«open» .now))) found),
+      write .ensures .1 ∙ ap (λ (d : Encoded). lentAfter d (a .out .now)) same ∙ sym (ap (λ (g : FromRow). lentAfter (writtenFrom g (length (a .out .now)) (wayOf (a .way)) (a .«open» .now)) (a .out .now)) found),
     )
 
 pub castanetash-write-spec : {M : Type 1} → statement M

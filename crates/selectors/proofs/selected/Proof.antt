@@ -220,124 +220,202 @@ goes-down-requires-8 : tie.Need-goes-down-requires-8
 goes-down-requires-8 c κs = search needs
 
 returns : tie.Need-returns
-returns c = right-by (c .before .before .before .before .args .way) _ _ _ _ (c .before .before .m .given .1) (c .property-selected .ensures) (property-right _ _ _ refl refl refl refl (c .before .before .before .before .args .way))
+returns c =
+    let a = c .before .before .before .before .args in
+    right-by (a .way) _ _ _ _ (c .before .before .m .given .1) (c .property-selected .ensures) (property-right _ _ _ refl refl refl refl (a .way))
 
 returns-2 : tie.Need-returns-2
-returns-2 c = right-by (c .before .before .before .before .args .way) _ _ _ _ (c .before .before .m2 .given .1) (c .property-selected2 .ensures) (property-right _ _ _ refl refl refl refl (c .before .before .before .before .args .way))
+returns-2 c =
+    let a = c .before .before .before .before .args in
+    right-by (a .way) _ _ _ _ (c .before .before .m2 .given .1) (c .property-selected2 .ensures) (property-right _ _ _ refl refl refl refl (a .way))
 
 returns-3 : tie.Need-returns-3
-returns-3 c = right-by (c .before .before .before .before .args .way) _ _ _ _ (c .before .before .m3 .given .1) (c .property-selected3 .ensures) (property-right _ _ _ refl refl refl refl (c .before .before .before .before .args .way))
+returns-3 c =
+    let a = c .before .before .before .before .args in
+    right-by (a .way) _ _ _ _ (c .before .before .m3 .given .1) (c .property-selected3 .ensures) (property-right _ _ _ refl refl refl refl (a .way))
 
 returns-4 : tie.Need-returns-4
-returns-4 c = right-by (c .before .before .before .before .args .way) _ _ _ _ (c .before .before .m4 .given .1) (c .property-selected4 .ensures) (property-right _ _ _ refl refl refl refl (c .before .before .before .before .args .way))
+returns-4 c =
+    let a = c .before .before .before .before .args in
+    right-by (a .way) _ _ _ _ (c .before .before .m4 .given .1) (c .property-selected4 .ensures) (property-right _ _ _ refl refl refl refl (a .way))
 
 returns-5 : tie.Need-returns-5
-returns-5 c = right-by (c .before .before .before .before .args .way) _ _ _ _ (c .before .before .m5 .given .1) (c .property-selected5 .ensures) (property-right _ _ _ refl refl refl refl (c .before .before .before .before .args .way))
+returns-5 c =
+    let a = c .before .before .before .before .args in
+    right-by (a .way) _ _ _ _ (c .before .before .m5 .given .1) (c .property-selected5 .ensures) (property-right _ _ _ refl refl refl refl (a .way))
 
 returns-6 : tie.Need-returns-6
-returns-6 c = right-by (c .before .before .before .before .args .way) _ _ _ _ (c .before .before .m6 .given .1) (c .property-selected6 .ensures) (property-right _ _ _ refl refl refl refl (c .before .before .before .before .args .way))
+returns-6 c =
+    let a = c .before .before .before .before .args in
+    right-by (a .way) _ _ _ _ (c .before .before .m6 .given .1) (c .property-selected6 .ensures) (property-right _ _ _ refl refl refl refl (a .way))
 
 returns-7 : tie.Need-returns-7
-returns-7 c = right-by (c .before .before .before .before .args .way) _ _ _ _ (c .before .before .m7 .given .1) (c .property-selected7 .ensures) (property-right _ _ _ refl refl refl refl (c .before .before .before .before .args .way))
+returns-7 c =
+    let a = c .before .before .before .before .args in
+    right-by (a .way) _ _ _ _ (c .before .before .m7 .given .1) (c .property-selected7 .ensures) (property-right _ _ _ refl refl refl refl (a .way))
 
 returns-8 : tie.Need-returns-8
-returns-8 c = right-by (c .before .before .before .before .args .way) _ _ _ _ (c .before .before .m8 .given .1) (c .action-selected .ensures) (action-right _ (c .before .before .before .before .args .way))
+returns-8 c =
+    let a = c .before .before .before .before .args in
+    right-by (a .way) _ _ _ _ (c .before .before .m8 .given .1) (c .action-selected .ensures) (action-right _ (a .way))
 
 returns-9 : tie.Need-returns-9
-returns-9 c = right-by (c .before .before .before .before .before .args .way) _ _ _ _ (c .before .before .before .m9 .given .1) (c .alert-selected .ensures ∙ ap (alertChoice (c .before .before .before .m9 .given .0 .0)) (c .before .command-leads .ensures)) (command-right _ _ (c .before .before .before .before .before .args .way))
+returns-9 c =
+    let a = c .before .before .before .before .before .args in
+    let m9 = c .before .before .before .m9 in
+    right-by (a .way) _ _ _ _ (m9 .given .1) (c .alert-selected .ensures ∙ ap (alertChoice (m9 .given .0 .0)) (c .before .command-leads .ensures)) (command-right _ _ (a .way))
 
 returns-10 : tie.Need-returns-10
-returns-10 c = right-by (c .before .before .before .before .before .args .way) _ _ _ _ (c .before .before .before .m10 .given .1) (c .alert-selected2 .ensures ∙ ap (alertChoice (c .before .before .before .m10 .given .0 .0)) (c .before .is-up .ensures)) (update-right _ _ (c .before .before .before .before .before .args .way))
+returns-10 c =
+    let a = c .before .before .before .before .before .args in
+    let m10 = c .before .before .before .m10 in
+    right-by (a .way) _ _ _ _ (m10 .given .1) (c .alert-selected2 .ensures ∙ ap (alertChoice (m10 .given .0 .0)) (c .before .is-up .ensures)) (update-right _ _ (a .way))
 
 returns-11 : tie.Need-returns-11
 unfolding encode encodeValues types hubAttachedIo portInformation portModeInformation
-returns-11 c = right-by (c .before .before .before .args .way) _ _ _ _ (c .before .enum-told .given .1) (c .goes-up .ensures) (going-up (Message'.Detached (c .before .enum-told .given .0 .0)) true _ (λ opens. refl) (λ opens. refl) (c .before .before .before .args .way))
+returns-11 c =
+    let a = c .before .before .before .args in
+    right-by (a .way) _ _ _ _ (c .before .enum-told .given .1) (c .goes-up .ensures) (going-up (Message'.Detached (c .before .enum-told .given .0 .0)) true _ (λ opens. refl) (λ opens. refl) (a .way))
 
 returns-12 : tie.Need-returns-12
 unfolding encode encodeValues types hubAttachedIo portInformation portModeInformation
-returns-12 c = right-by (c .before .before .before .args .way) _ _ _ _ (c .before .enum-told2 .given .1) (c .goes-up2 .ensures) (going-up (Message'.Attached (c .before .enum-told2 .given .0 .0) (c .before .enum-told2 .given .0 .1 .0) (c .before .enum-told2 .given .0 .1 .1 .0) (c .before .enum-told2 .given .0 .1 .1 .1 .0)) true _ (λ opens. refl) (λ opens. refl) (c .before .before .before .args .way))
+returns-12 c =
+    let a = c .before .before .before .args in
+    let f = c .before .enum-told2 .given .0 in
+    right-by (a .way) _ _ _ _ (c .before .enum-told2 .given .1) (c .goes-up2 .ensures) (going-up (Message'.Attached (f .0) (f .1 .0) (f .1 .1 .0) (f .1 .1 .1 .0)) true _ (λ opens. refl) (λ opens. refl) (a .way))
 
 returns-13 : tie.Need-returns-13
 unfolding encode encodeValues types hubAttachedIo portInformation portModeInformation
-returns-13 c = right-by (c .before .before .before .args .way) _ _ _ _ (c .before .enum-told3 .given .1) (c .goes-up3 .ensures) (going-up (Message'.AttachedVirtual (c .before .enum-told3 .given .0 .0) (c .before .enum-told3 .given .0 .1 .0) (c .before .enum-told3 .given .0 .1 .1 .0) (c .before .enum-told3 .given .0 .1 .1 .1 .0)) true _ (λ opens. refl) (λ opens. refl) (c .before .before .before .args .way))
+returns-13 c =
+    let a = c .before .before .before .args in
+    let f = c .before .enum-told3 .given .0 in
+    right-by (a .way) _ _ _ _ (c .before .enum-told3 .given .1) (c .goes-up3 .ensures) (going-up (Message'.AttachedVirtual (f .0) (f .1 .0) (f .1 .1 .0) (f .1 .1 .1 .0)) true _ (λ opens. refl) (λ opens. refl) (a .way))
 
 returns-14 : tie.Need-returns-14
 unfolding encode encodeValues types hubAttachedIo portInformation portModeInformation
-returns-14 c = right-by (c .before .before .before .args .way) _ _ _ _ (c .before .enum-told4 .given .1) (c .goes-up4 .ensures) (going-up (Message'.GenericError (c .before .enum-told4 .given .0 .0) (c .before .enum-told4 .given .0 .1 .0)) true _ (λ opens. refl) (λ opens. refl) (c .before .before .before .args .way))
+returns-14 c =
+    let a = c .before .before .before .args in
+    right-by (a .way) _ _ _ _ (c .before .enum-told4 .given .1) (c .goes-up4 .ensures) (going-up (Message'.GenericError (c .before .enum-told4 .given .0 .0) (c .before .enum-told4 .given .0 .1 .0)) true _ (λ opens. refl) (λ opens. refl) (a .way))
 
 returns-15 : tie.Need-returns-15
 unfolding encode encodeValues types virtualPortSetup
-returns-15 c = right-by (c .before .before .before .args .way) _ _ _ _ (c .before .enum-told5 .given .1) (c .goes-down .ensures) (going-down Message'.GoIntoBootMode (λ opens. refl) (λ opens. refl) (c .before .before .before .args .way))
+returns-15 c =
+    let a = c .before .before .before .args in
+    right-by (a .way) _ _ _ _ (c .before .enum-told5 .given .1) (c .goes-down .ensures) (going-down Message'.GoIntoBootMode (λ opens. refl) (λ opens. refl) (a .way))
 
 returns-16 : tie.Need-returns-16
 unfolding encode encodeValues types virtualPortSetup
-returns-16 c = right-by (c .before .before .before .args .way) _ _ _ _ (c .before .enum-told6 .given .1) (c .goes-down2 .ensures) (going-down Message'.LockMemory (λ opens. refl) (λ opens. refl) (c .before .before .before .args .way))
+returns-16 c =
+    let a = c .before .before .before .args in
+    right-by (a .way) _ _ _ _ (c .before .enum-told6 .given .1) (c .goes-down2 .ensures) (going-down Message'.LockMemory (λ opens. refl) (λ opens. refl) (a .way))
 
 returns-17 : tie.Need-returns-17
 unfolding encode encodeValues types virtualPortSetup
-returns-17 c = right-by (c .before .before .before .args .way) _ _ _ _ (c .before .enum-told7 .given .1) (c .goes-down3 .ensures) (going-down Message'.LockStatusRequest (λ opens. refl) (λ opens. refl) (c .before .before .before .args .way))
+returns-17 c =
+    let a = c .before .before .before .args in
+    right-by (a .way) _ _ _ _ (c .before .enum-told7 .given .1) (c .goes-down3 .ensures) (going-down Message'.LockStatusRequest (λ opens. refl) (λ opens. refl) (a .way))
 
 returns-18 : tie.Need-returns-18
 unfolding encode encodeValues types hubAttachedIo portInformation portModeInformation
-returns-18 c = right-by (c .before .before .before .args .way) _ _ _ _ (c .before .enum-told8 .given .1) (c .goes-up5 .ensures) (going-up (Message'.LockStatus (c .before .enum-told8 .given .0 .0)) true _ (λ opens. refl) (λ opens. refl) (c .before .before .before .args .way))
+returns-18 c =
+    let a = c .before .before .before .args in
+    right-by (a .way) _ _ _ _ (c .before .enum-told8 .given .1) (c .goes-up5 .ensures) (going-up (Message'.LockStatus (c .before .enum-told8 .given .0 .0)) true _ (λ opens. refl) (λ opens. refl) (a .way))
 
 returns-19 : tie.Need-returns-19
 unfolding encode encodeValues types virtualPortSetup
-returns-19 c = right-by (c .before .before .before .args .way) _ _ _ _ (c .before .enum-told9 .given .1) (c .goes-down4 .ensures) (going-down (Message'.PortInformationRequest (c .before .enum-told9 .given .0 .0) (c .before .enum-told9 .given .0 .1 .0)) (λ opens. refl) (λ opens. refl) (c .before .before .before .args .way))
+returns-19 c =
+    let a = c .before .before .before .args in
+    right-by (a .way) _ _ _ _ (c .before .enum-told9 .given .1) (c .goes-down4 .ensures) (going-down (Message'.PortInformationRequest (c .before .enum-told9 .given .0 .0) (c .before .enum-told9 .given .0 .1 .0)) (λ opens. refl) (λ opens. refl) (a .way))
 
 returns-20 : tie.Need-returns-20
 unfolding encode encodeValues types virtualPortSetup
-returns-20 c = right-by (c .before .before .before .args .way) _ _ _ _ (c .before .enum-told10 .given .1) (c .goes-down5 .ensures) (going-down (Message'.ModeInformationRequest (c .before .enum-told10 .given .0 .0) (c .before .enum-told10 .given .0 .1 .0) (c .before .enum-told10 .given .0 .1 .1 .0)) (λ opens. refl) (λ opens. refl) (c .before .before .before .args .way))
+returns-20 c =
+    let a = c .before .before .before .args in
+    let f = c .before .enum-told10 .given .0 in
+    right-by (a .way) _ _ _ _ (c .before .enum-told10 .given .1) (c .goes-down5 .ensures) (going-down (Message'.ModeInformationRequest (f .0) (f .1 .0) (f .1 .1 .0)) (λ opens. refl) (λ opens. refl) (a .way))
 
 returns-21 : tie.Need-returns-21
 unfolding encode encodeValues types virtualPortSetup
-returns-21 c = right-by (c .before .before .before .args .way) _ _ _ _ (c .before .enum-told11 .given .1) (c .goes-down6 .ensures) (going-down (Message'.InputFormatSetup (c .before .enum-told11 .given .0 .0) (c .before .enum-told11 .given .0 .1 .0) (c .before .enum-told11 .given .0 .1 .1 .0) (c .before .enum-told11 .given .0 .1 .1 .1 .0)) (λ opens. refl) (λ opens. refl) (c .before .before .before .args .way))
+returns-21 c =
+    let a = c .before .before .before .args in
+    let f = c .before .enum-told11 .given .0 in
+    right-by (a .way) _ _ _ _ (c .before .enum-told11 .given .1) (c .goes-down6 .ensures) (going-down (Message'.InputFormatSetup (f .0) (f .1 .0) (f .1 .1 .0) (f .1 .1 .1 .0)) (λ opens. refl) (λ opens. refl) (a .way))
 
 returns-22 : tie.Need-returns-22
 unfolding encode encodeValues types hubAttachedIo portInformation portModeInformation
-returns-22 c = right-by (c .before .before .before .args .way) _ _ _ _ (c .before .enum-told12 .given .1) (c .goes-up6 .ensures) (going-up (Message'.PortModes (c .before .enum-told12 .given .0 .0) (c .before .enum-told12 .given .0 .1 .0) (c .before .enum-told12 .given .0 .1 .1 .0) (c .before .enum-told12 .given .0 .1 .1 .1 .0) (c .before .enum-told12 .given .0 .1 .1 .1 .1 .0)) true _ (λ opens. refl) (λ opens. refl) (c .before .before .before .args .way))
+returns-22 c =
+    let a = c .before .before .before .args in
+    let f = c .before .enum-told12 .given .0 in
+    right-by (a .way) _ _ _ _ (c .before .enum-told12 .given .1) (c .goes-up6 .ensures) (going-up (Message'.PortModes (f .0) (f .1 .0) (f .1 .1 .0) (f .1 .1 .1 .0) (f .1 .1 .1 .1 .0)) true _ (λ opens. refl) (λ opens. refl) (a .way))
 
 returns-23 : tie.Need-returns-23
 unfolding encode encodeValues types hubAttachedIo portInformation portModeInformation
-returns-23 c = right-by (c .before .before .before .args .way) _ _ _ _ (c .before .enum-told13 .given .1) (c .goes-up7 .ensures) (going-up (Message'.PortCombinations (c .before .enum-told13 .given .0 .0) (c .before .enum-told13 .given .0 .1 .0)) true _ (λ opens. refl) (λ opens. refl) (c .before .before .before .args .way))
+returns-23 c =
+    let a = c .before .before .before .args in
+    right-by (a .way) _ _ _ _ (c .before .enum-told13 .given .1) (c .goes-up7 .ensures) (going-up (Message'.PortCombinations (c .before .enum-told13 .given .0 .0) (c .before .enum-told13 .given .0 .1 .0)) true _ (λ opens. refl) (λ opens. refl) (a .way))
 
 returns-24 : tie.Need-returns-24
-returns-24 c = right-by (c .before .before .before .before .before .args .way) _ _ _ _ (c .before .before .before .m11 .given .1) (c .goes-up8 .ensures ∙ ap (λ (b : Bool). upOnly (c .before .before .before .before .before .args .way) b 5) (c .before .is-text .ensures)) (text-right _ _ _ (c .before .before .before .before .before .args .way))
+returns-24 c =
+    let a = c .before .before .before .before .before .args in
+    right-by (a .way) _ _ _ _ (c .before .before .before .m11 .given .1) (c .goes-up8 .ensures ∙ ap (λ (b : Bool). upOnly (a .way) b 5) (c .before .is-text .ensures)) (text-right _ _ _ (a .way))
 
 returns-25 : tie.Need-returns-25
-returns-25 c = right-by (c .before .before .before .before .before .args .way) _ _ _ _ (c .before .before .before .m12 .given .1) (c .goes-up9 .ensures ∙ ap (λ (b : Bool). upOnly (c .before .before .before .before .before .args .way) b 5) (c .before .is-range .ensures)) (range-right _ _ _ _ _ (c .before .before .before .before .before .args .way))
+returns-25 c =
+    let a = c .before .before .before .before .before .args in
+    right-by (a .way) _ _ _ _ (c .before .before .before .m12 .given .1) (c .goes-up9 .ensures ∙ ap (λ (b : Bool). upOnly (a .way) b 5) (c .before .is-range .ensures)) (range-right _ _ _ _ _ (a .way))
 
 returns-26 : tie.Need-returns-26
 unfolding encode encodeValues types hubAttachedIo portInformation portModeInformation
-returns-26 c = right-by (c .before .before .before .args .way) _ _ _ _ (c .before .enum-told14 .given .1) (c .goes-up10 .ensures) (going-up (Message'.ModeMapping (c .before .enum-told14 .given .0 .0) (c .before .enum-told14 .given .0 .1 .0) (c .before .enum-told14 .given .0 .1 .1 .0)) true _ (λ opens. refl) (λ opens. refl) (c .before .before .before .args .way))
+returns-26 c =
+    let a = c .before .before .before .args in
+    let f = c .before .enum-told14 .given .0 in
+    right-by (a .way) _ _ _ _ (c .before .enum-told14 .given .1) (c .goes-up10 .ensures) (going-up (Message'.ModeMapping (f .0) (f .1 .0) (f .1 .1 .0)) true _ (λ opens. refl) (λ opens. refl) (a .way))
 
 returns-27 : tie.Need-returns-27
 unfolding encode encodeValues types hubAttachedIo portInformation portModeInformation
-returns-27 c = right-by (c .before .before .before .args .way) _ _ _ _ (c .before .enum-told15 .given .1) (c .goes-up11 .ensures) (going-up (Message'.ModeBias (c .before .enum-told15 .given .0 .0) (c .before .enum-told15 .given .0 .1 .0) (c .before .enum-told15 .given .0 .1 .1 .0)) true _ (λ opens. refl) (λ opens. refl) (c .before .before .before .args .way))
+returns-27 c =
+    let a = c .before .before .before .args in
+    let f = c .before .enum-told15 .given .0 in
+    right-by (a .way) _ _ _ _ (c .before .enum-told15 .given .1) (c .goes-up11 .ensures) (going-up (Message'.ModeBias (f .0) (f .1 .0) (f .1 .1 .0)) true _ (λ opens. refl) (λ opens. refl) (a .way))
 
 returns-28 : tie.Need-returns-28
 unfolding encode encodeValues types hubAttachedIo portInformation portModeInformation
-returns-28 c = right-by (c .before .before .before .args .way) _ _ _ _ (c .before .enum-told16 .given .1) (c .goes-up12 .ensures) (going-up (Message'.ModeCapabilities (c .before .enum-told16 .given .0 .0) (c .before .enum-told16 .given .0 .1 .0) (c .before .enum-told16 .given .0 .1 .1 .0)) true _ (λ opens. refl) (λ opens. refl) (c .before .before .before .args .way))
+returns-28 c =
+    let a = c .before .before .before .args in
+    let f = c .before .enum-told16 .given .0 in
+    right-by (a .way) _ _ _ _ (c .before .enum-told16 .given .1) (c .goes-up12 .ensures) (going-up (Message'.ModeCapabilities (f .0) (f .1 .0) (f .1 .1 .0)) true _ (λ opens. refl) (λ opens. refl) (a .way))
 
 returns-29 : tie.Need-returns-29
 unfolding encode encodeValues types hubAttachedIo portInformation portModeInformation
-returns-29 c = right-by (c .before .before .before .args .way) _ _ _ _ (c .before .enum-told17 .given .1) (c .goes-up13 .ensures) (going-up (Message'.ValueFormat (c .before .enum-told17 .given .0 .0) (c .before .enum-told17 .given .0 .1 .0) (c .before .enum-told17 .given .0 .1 .1 .0) (c .before .enum-told17 .given .0 .1 .1 .1 .0) (c .before .enum-told17 .given .0 .1 .1 .1 .1 .0) (c .before .enum-told17 .given .0 .1 .1 .1 .1 .1 .0)) true _ (λ opens. refl) (λ opens. refl) (c .before .before .before .args .way))
+returns-29 c =
+    let a = c .before .before .before .args in
+    let f = c .before .enum-told17 .given .0 in
+    right-by (a .way) _ _ _ _ (c .before .enum-told17 .given .1) (c .goes-up13 .ensures) (going-up (Message'.ValueFormat (f .0) (f .1 .0) (f .1 .1 .0) (f .1 .1 .1 .0) (f .1 .1 .1 .1 .0) (f .1 .1 .1 .1 .1 .0)) true _ (λ opens. refl) (λ opens. refl) (a .way))
 
 returns-30 : tie.Need-returns-30
 unfolding encode encodeValues types hubAttachedIo portInformation portModeInformation
-returns-30 c = right-by (c .before .before .before .args .way) _ _ _ _ (c .before .enum-told18 .given .1) (c .goes-up14 .ensures) (going-up (Message'.PortValue (c .before .enum-told18 .given .0 .0)) true _ (λ opens. refl) (λ opens. refl) (c .before .before .before .args .way))
+returns-30 c =
+    let a = c .before .before .before .args in
+    right-by (a .way) _ _ _ _ (c .before .enum-told18 .given .1) (c .goes-up14 .ensures) (going-up (Message'.PortValue (c .before .enum-told18 .given .0 .0)) true _ (λ opens. refl) (λ opens. refl) (a .way))
 
 returns-31 : tie.Need-returns-31
 unfolding encode encodeValues types hubAttachedIo portInformation portModeInformation
-returns-31 c = right-by (c .before .before .before .args .way) _ _ _ _ (c .before .enum-told19 .given .1) (c .goes-up15 .ensures) (going-up (Message'.InputFormat (c .before .enum-told19 .given .0 .0) (c .before .enum-told19 .given .0 .1 .0) (c .before .enum-told19 .given .0 .1 .1 .0) (c .before .enum-told19 .given .0 .1 .1 .1 .0)) true _ (λ opens. refl) (λ opens. refl) (c .before .before .before .args .way))
+returns-31 c =
+    let a = c .before .before .before .args in
+    let f = c .before .enum-told19 .given .0 in
+    right-by (a .way) _ _ _ _ (c .before .enum-told19 .given .1) (c .goes-up15 .ensures) (going-up (Message'.InputFormat (f .0) (f .1 .0) (f .1 .1 .0) (f .1 .1 .1 .0)) true _ (λ opens. refl) (λ opens. refl) (a .way))
 
 returns-32 : tie.Need-returns-32
 unfolding encode encodeValues types virtualPortSetup
-returns-32 c = right-by (c .before .before .before .args .way) _ _ _ _ (c .before .enum-told20 .given .1) (c .goes-down7 .ensures) (going-down (Message'.VirtualDisconnect (c .before .enum-told20 .given .0 .0)) (λ opens. refl) (λ opens. refl) (c .before .before .before .args .way))
+returns-32 c =
+    let a = c .before .before .before .args in
+    right-by (a .way) _ _ _ _ (c .before .enum-told20 .given .1) (c .goes-down7 .ensures) (going-down (Message'.VirtualDisconnect (c .before .enum-told20 .given .0 .0)) (λ opens. refl) (λ opens. refl) (a .way))
 
 returns-33 : tie.Need-returns-33
 unfolding encode encodeValues types virtualPortSetup
-returns-33 c = right-by (c .before .before .before .args .way) _ _ _ _ (c .before .enum-told21 .given .1) (c .goes-down8 .ensures) (going-down (Message'.VirtualConnect (c .before .enum-told21 .given .0 .0) (c .before .enum-told21 .given .0 .1 .0)) (λ opens. refl) (λ opens. refl) (c .before .before .before .args .way))
+returns-33 c =
+    let a = c .before .before .before .args in
+    right-by (a .way) _ _ _ _ (c .before .enum-told21 .given .1) (c .goes-down8 .ensures) (going-down (Message'.VirtualConnect (c .before .enum-told21 .given .0 .0) (c .before .enum-told21 .given .0 .1 .0)) (λ opens. refl) (λ opens. refl) (a .way))
 
 pub selected-spec : {M : Type 1} → statement M
 selected-spec =

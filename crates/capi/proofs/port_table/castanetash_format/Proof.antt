@@ -24,7 +24,10 @@ same-length c = search needs
 
 returns : tie.Need-returns
 returns c =
-    (c .before .before .fill .ensures .0 ∙ ap (λ (row : List ℕ). filledBy row (c .before .before .before .before .before .before .before .before .before .args .cells .now)) (c .before .before .before .before .before .format-row .ensures ∙ ap formatRow (c .before .before .before .before .before .before .format .ensures)), c .before .before .fill .ensures .1 ∙ ap (λ (row : List ℕ). filledWith row (c .before .before .before .before .before .before .before .before .before .args .cells .now)) (c .before .before .before .before .before .format-row .ensures ∙ ap formatRow (c .before .before .before .before .before .before .format .ensures)))
+    let a = c .before .before .before .before .before .before .before .before .before .args in
+    let format = c .before .before .before .before .before .before .format in
+    let format-row = c .before .before .before .before .before .format-row in
+    (c .before .before .fill .ensures .0 ∙ ap (λ (row : List ℕ). filledBy row (a .cells .now)) (format-row .ensures ∙ ap formatRow (format .ensures)), c .before .before .fill .ensures .1 ∙ ap (λ (row : List ℕ). filledWith row (a .cells .now)) (format-row .ensures ∙ ap formatRow (format .ensures)))
 
 pub castanetash-format-spec : {M : Type 1} → statement M
 castanetash-format-spec =

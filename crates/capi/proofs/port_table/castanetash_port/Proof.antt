@@ -24,7 +24,10 @@ same-length c = search needs
 
 returns : tie.Need-returns
 returns c =
-    (c .before .before .fill .ensures .0 ∙ ap (λ (row : List ℕ). filledBy row (c .before .before .before .before .before .before .before .before .before .args .cells .now)) (c .before .before .before .before .before .port-row .ensures ∙ ap portRow (c .before .before .before .before .before .before .port .ensures)), c .before .before .fill .ensures .1 ∙ ap (λ (row : List ℕ). filledWith row (c .before .before .before .before .before .before .before .before .before .args .cells .now)) (c .before .before .before .before .before .port-row .ensures ∙ ap portRow (c .before .before .before .before .before .before .port .ensures)))
+    let a = c .before .before .before .before .before .before .before .before .before .args in
+    let port = c .before .before .before .before .before .before .port in
+    let port-row = c .before .before .before .before .before .port-row in
+    (c .before .before .fill .ensures .0 ∙ ap (λ (row : List ℕ). filledBy row (a .cells .now)) (port-row .ensures ∙ ap portRow (port .ensures)), c .before .before .fill .ensures .1 ∙ ap (λ (row : List ℕ). filledWith row (a .cells .now)) (port-row .ensures ∙ ap portRow (port .ensures)))
 
 pub castanetash-port-spec : {M : Type 1} → statement M
 castanetash-port-spec =

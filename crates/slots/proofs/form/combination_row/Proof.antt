@@ -28,7 +28,9 @@ word-requires-8 : tie.Need-word-requires-8
 word-requires-8 c κs = search needs
 
 returns : tie.Need-returns
-returns c = rw (c .before .before .before .before .before .before .before .word .ensures, c .before .before .before .before .before .before .word2 .ensures, c .before .before .before .before .before .word3 .ensures, c .before .before .before .before .word4 .ensures, c .before .before .before .word5 .ensures, c .before .before .word6 .ensures, c .before .word7 .ensures, c .word8 .ensures) (combination-slots (c .before .before .before .before .before .before .before .before .args .port) (c .before .before .before .before .before .before .before .before .args .c .entry0) (c .before .before .before .before .before .before .before .before .args .c .entry1) (c .before .before .before .before .before .before .before .before .args .c .entry2) (c .before .before .before .before .before .before .before .before .args .c .entry3) (c .before .before .before .before .before .before .before .before .args .c .entry4) (c .before .before .before .before .before .before .before .before .args .c .entry5) (c .before .before .before .before .before .before .before .before .args .c .entry6) (c .before .before .before .before .before .before .before .before .args .c .entry7) (c .before .before .before .before .before .before .before .before .args .c .count))
+returns c =
+    let a = c .before .before .before .before .before .before .before .before .args in
+    rw (c .before .before .before .before .before .before .before .word .ensures, c .before .before .before .before .before .before .word2 .ensures, c .before .before .before .before .before .word3 .ensures, c .before .before .before .before .word4 .ensures, c .before .before .before .word5 .ensures, c .before .before .word6 .ensures, c .before .word7 .ensures, c .word8 .ensures) (combination-slots (a .port) (a .c .entry0) (a .c .entry1) (a .c .entry2) (a .c .entry3) (a .c .entry4) (a .c .entry5) (a .c .entry6) (a .c .entry7) (a .c .count))
 
 pub combination-row-spec : {M : Type 1} → statement M
 combination-row-spec =

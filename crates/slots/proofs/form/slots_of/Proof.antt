@@ -210,135 +210,135 @@ row3-requires-9 c κs = search needs
 
 returns : tie.Need-returns
 unfolding layout
-returns c = slotted _ _ _ _ (c .before .before .m .given .1) (c .row2 .ensures) (record { eleven = refl; fields = refl; values = refl })
+returns c = slotted (c .before .before .m .given .1) (c .row2 .ensures) (record { eleven = refl; fields = refl; values = refl })
 
 returns-2 : tie.Need-returns-2
 unfolding layout
-returns-2 c = slotted _ _ _ _ (c .before .before .m2 .given .1) (c .row22 .ensures) (record { eleven = refl; fields = refl; values = refl })
+returns-2 c = slotted (c .before .before .m2 .given .1) (c .row22 .ensures) (record { eleven = refl; fields = refl; values = refl })
 
 returns-3 : tie.Need-returns-3
 unfolding layout
-returns-3 c = slotted _ _ _ _ (c .before .before .before .m3 .given .1) (c .row3 .ensures) (record { eleven = refl; fields = rw (c .before .greatest .ensures); values = refl })
+returns-3 c = slotted (c .before .before .before .m3 .given .1) (c .row3 .ensures) (record { eleven = refl; fields = rw (c .before .greatest .ensures); values = refl })
 
 returns-4 : tie.Need-returns-4
 unfolding layout
-returns-4 c = slotted _ _ _ _ (c .before .before .m4 .given .1) (c .row32 .ensures) (record { eleven = refl; fields = refl; values = rw (toZ-ofZ {w = w8} {z = c .before .before .m4 .given .0 .1 .0} (record { sfits = c .before .known-told4 .given .1 .0 .1 })) })
+returns-4 c = slotted (c .before .before .m4 .given .1) (c .row32 .ensures) (record { eleven = refl; fields = refl; values = rw (toZ-ofZ {w = w8} {z = c .before .before .m4 .given .0 .1 .0} (record { sfits = c .before .known-told4 .given .1 .0 .1 })) })
 
 returns-5 : tie.Need-returns-5
 unfolding layout
-returns-5 c = slotted _ _ _ _ (c .before .before .m5 .given .1) (c .row33 .ensures) (record { eleven = refl; fields = refl; values = rw (toZ-ofZ {w = w32} {z = c .before .before .m5 .given .0 .1 .1 .0} (record { sfits = c .before .known-told5 .given .1 .1 .0 .1 })) })
+returns-5 c = slotted (c .before .before .m5 .given .1) (c .row33 .ensures) (record { eleven = refl; fields = refl; values = rw (toZ-ofZ {w = w32} {z = c .before .before .m5 .given .0 .1 .1 .0} (record { sfits = c .before .known-told5 .given .1 .1 .0 .1 })) })
 
 returns-6 : tie.Need-returns-6
 unfolding layout
-returns-6 c = slotted _ _ _ _ (c .before .before .m6 .given .1) (c .row34 .ensures) (record { eleven = refl; fields = refl; values = refl })
+returns-6 c = slotted (c .before .before .m6 .given .1) (c .row34 .ensures) (record { eleven = refl; fields = refl; values = refl })
 
 returns-7 : tie.Need-returns-7
 unfolding layout
-returns-7 c = slotted _ _ _ _ (c .before .before .m7 .given .1) (c .row35 .ensures) (record { eleven = refl; fields = refl; values = refl })
+returns-7 c = slotted (c .before .before .m7 .given .1) (c .row35 .ensures) (record { eleven = refl; fields = refl; values = refl })
 
 returns-8 : tie.Need-returns-8
 unfolding layout
-returns-8 c = slotted _ _ _ _ (c .before .before .m8 .given .1) (c .row1 .ensures) (record { eleven = refl; fields = refl; values = refl })
+returns-8 c = slotted (c .before .before .m8 .given .1) (c .row1 .ensures) (record { eleven = refl; fields = refl; values = refl })
 
 returns-9 : tie.Need-returns-9
 unfolding layout
-returns-9 c = slotted _ _ _ _ (c .before .before .m9 .given .1) (c .row23 .ensures) (record { eleven = refl; fields = refl; values = refl })
+returns-9 c = slotted (c .before .before .m9 .given .1) (c .row23 .ensures) (record { eleven = refl; fields = refl; values = refl })
 
 returns-10 : tie.Need-returns-10
 unfolding layout
-returns-10 c = slotted _ _ _ _ (c .before .before .m10 .given .1) (c .row36 .ensures) (record { eleven = refl; fields = refl; values = refl })
+returns-10 c = slotted (c .before .before .m10 .given .1) (c .row36 .ensures) (record { eleven = refl; fields = refl; values = refl })
 
 returns-11 : tie.Need-returns-11
 unfolding layout
-returns-11 c = slotted _ _ _ _ (c .before .before .m11 .given .1) (c .row24 .ensures) (record { eleven = refl; fields = refl; values = refl })
+returns-11 c = slotted (c .before .before .m11 .given .1) (c .row24 .ensures) (record { eleven = refl; fields = refl; values = refl })
 
 returns-12 : tie.Need-returns-12
 unfolding layout
-returns-12 c = slotted _ _ _ _ (c .before .before .m12 .given .1) (c .row5 .ensures) (record { eleven = refl; fields = refl; values = rw (toZ-ofZ {w = w32} {z = c .before .before .m12 .given .0 .1 .1 .0} (record { sfits = c .before .known-told12 .given .1 .1 .0 .1 }), toZ-ofZ {w = w32} {z = c .before .before .m12 .given .0 .1 .1 .1 .0} (record { sfits = c .before .known-told12 .given .1 .1 .1 .0 .1 })) })
+returns-12 c = slotted (c .before .before .m12 .given .1) (c .row5 .ensures) (record { eleven = refl; fields = refl; values = rw (toZ-ofZ {w = w32} {z = c .before .before .m12 .given .0 .1 .1 .0} (record { sfits = c .before .known-told12 .given .1 .1 .0 .1 }), toZ-ofZ {w = w32} {z = c .before .before .m12 .given .0 .1 .1 .1 .0} (record { sfits = c .before .known-told12 .given .1 .1 .1 .0 .1 })) })
 
 returns-13 : tie.Need-returns-13
 unfolding layout
-returns-13 c = slotted _ _ _ _ (c .before .before .m13 .given .1) (c .row52 .ensures) (record { eleven = refl; fields = refl; values = refl })
+returns-13 c = slotted (c .before .before .m13 .given .1) (c .row52 .ensures) (record { eleven = refl; fields = refl; values = refl })
 
 returns-14 : tie.Need-returns-14
 unfolding layout
-returns-14 c = slotted _ _ _ _ (c .before .before .m14 .given .1) (c .row25 .ensures) (record { eleven = refl; fields = refl; values = refl })
+returns-14 c = slotted (c .before .before .m14 .given .1) (c .row25 .ensures) (record { eleven = refl; fields = refl; values = refl })
 
 returns-15 : tie.Need-returns-15
 unfolding layout
-returns-15 c = slotted _ _ _ _ (c .before .enum-told .given .1) (c .row12 .ensures) (record { eleven = refl; fields = refl; values = refl })
+returns-15 c = slotted (c .before .enum-told .given .1) (c .row12 .ensures) (record { eleven = refl; fields = refl; values = refl })
 
 returns-16 : tie.Need-returns-16
 unfolding layout
-returns-16 c = slotted _ _ _ _ (c .before .enum-told2 .given .1) (c .row13 .ensures) (record { eleven = refl; fields = refl; values = refl })
+returns-16 c = slotted (c .before .enum-told2 .given .1) (c .row13 .ensures) (record { eleven = refl; fields = refl; values = refl })
 
 returns-17 : tie.Need-returns-17
 unfolding layout
-returns-17 c = slotted _ _ _ _ (c .before .enum-told3 .given .1) (c .row0 .ensures) (record { eleven = refl; fields = refl; values = refl })
+returns-17 c = slotted (c .before .enum-told3 .given .1) (c .row0 .ensures) (record { eleven = refl; fields = refl; values = refl })
 
 returns-18 : tie.Need-returns-18
 unfolding layout
-returns-18 c = slotted _ _ _ _ (c .before .before .m15 .given .1) (c .row14 .ensures) (record { eleven = refl; fields = refl; values = refl })
+returns-18 c = slotted (c .before .before .m15 .given .1) (c .row14 .ensures) (record { eleven = refl; fields = refl; values = refl })
 
 returns-19 : tie.Need-returns-19
 unfolding layout
-returns-19 c = slotted _ _ _ _ (c .before .before .m16 .given .1) (c .row26 .ensures) (record { eleven = refl; fields = refl; values = refl })
+returns-19 c = slotted (c .before .before .m16 .given .1) (c .row26 .ensures) (record { eleven = refl; fields = refl; values = refl })
 
 returns-20 : tie.Need-returns-20
 unfolding layout
-returns-20 c = slotted _ _ _ _ (c .before .before .m17 .given .1) (c .row37 .ensures) (record { eleven = refl; fields = refl; values = refl })
+returns-20 c = slotted (c .before .before .m17 .given .1) (c .row37 .ensures) (record { eleven = refl; fields = refl; values = refl })
 
 returns-21 : tie.Need-returns-21
 unfolding layout
-returns-21 c = slotted _ _ _ _ (c .before .before .m18 .given .1) (c .row4 .ensures) (record { eleven = refl; fields = refl; values = refl })
+returns-21 c = slotted (c .before .before .m18 .given .1) (c .row4 .ensures) (record { eleven = refl; fields = refl; values = refl })
 
 returns-22 : tie.Need-returns-22
 unfolding layout
-returns-22 c = slotted _ _ _ _ (c .before .before .m19 .given .1) (c .row6 .ensures) (record { eleven = refl; fields = refl; values = refl })
+returns-22 c = slotted (c .before .before .m19 .given .1) (c .row6 .ensures) (record { eleven = refl; fields = refl; values = refl })
 
 returns-23 : tie.Need-returns-23
 unfolding layout
-returns-23 c = slotted _ _ _ _ (c .before .before .m20 .given .1) refl (c .combination-row .ensures)
+returns-23 c = slotted (c .before .before .m20 .given .1) refl (c .combination-row .ensures)
 
 returns-24 : tie.Need-returns-24
 unfolding layout
-returns-24 c = slotted _ _ _ _ (c .before .before .m21 .given .1) (c .row38 .ensures) (record { eleven = refl; fields = refl; values = refl })
+returns-24 c = slotted (c .before .before .m21 .given .1) (c .row38 .ensures) (record { eleven = refl; fields = refl; values = refl })
 
 returns-25 : tie.Need-returns-25
 unfolding layout
-returns-25 c = slotted _ _ _ _ (c .before .before .m22 .given .1) (c .row53 .ensures) (record { eleven = refl; fields = refl; values = refl })
+returns-25 c = slotted (c .before .before .m22 .given .1) (c .row53 .ensures) (record { eleven = refl; fields = refl; values = refl })
 
 returns-26 : tie.Need-returns-26
 unfolding layout
-returns-26 c = slotted _ _ _ _ (c .before .before .m23 .given .1) (c .row42 .ensures) (record { eleven = refl; fields = refl; values = refl })
+returns-26 c = slotted (c .before .before .m23 .given .1) (c .row42 .ensures) (record { eleven = refl; fields = refl; values = refl })
 
 returns-27 : tie.Need-returns-27
 unfolding layout
-returns-27 c = slotted _ _ _ _ (c .before .before .m24 .given .1) (c .row43 .ensures) (record { eleven = refl; fields = refl; values = refl })
+returns-27 c = slotted (c .before .before .m24 .given .1) (c .row43 .ensures) (record { eleven = refl; fields = refl; values = refl })
 
 returns-28 : tie.Need-returns-28
 unfolding layout
-returns-28 c = slotted _ _ _ _ (c .before .before .m25 .given .1) (c .row44 .ensures) (record { eleven = refl; fields = refl; values = refl })
+returns-28 c = slotted (c .before .before .m25 .given .1) (c .row44 .ensures) (record { eleven = refl; fields = refl; values = refl })
 
 returns-29 : tie.Need-returns-29
 unfolding layout
-returns-29 c = slotted _ _ _ _ (c .before .before .m26 .given .1) (c .row7 .ensures) (record { eleven = refl; fields = refl; values = refl })
+returns-29 c = slotted (c .before .before .m26 .given .1) (c .row7 .ensures) (record { eleven = refl; fields = refl; values = refl })
 
 returns-30 : tie.Need-returns-30
 unfolding layout
-returns-30 c = slotted _ _ _ _ (c .before .before .m27 .given .1) (c .row15 .ensures) (record { eleven = refl; fields = refl; values = refl })
+returns-30 c = slotted (c .before .before .m27 .given .1) (c .row15 .ensures) (record { eleven = refl; fields = refl; values = refl })
 
 returns-31 : tie.Need-returns-31
 unfolding layout
-returns-31 c = slotted _ _ _ _ (c .before .before .m28 .given .1) (c .row45 .ensures) (record { eleven = refl; fields = refl; values = refl })
+returns-31 c = slotted (c .before .before .m28 .given .1) (c .row45 .ensures) (record { eleven = refl; fields = refl; values = refl })
 
 returns-32 : tie.Need-returns-32
 unfolding layout
-returns-32 c = slotted _ _ _ _ (c .before .before .m29 .given .1) (c .row27 .ensures) (record { eleven = refl; fields = refl; values = refl })
+returns-32 c = slotted (c .before .before .m29 .given .1) (c .row27 .ensures) (record { eleven = refl; fields = refl; values = refl })
 
 returns-33 : tie.Need-returns-33
 unfolding layout
-returns-33 c = slotted _ _ _ _ (c .before .before .m30 .given .1) (c .row39 .ensures) (record { eleven = refl; fields = refl; values = refl })
+returns-33 c = slotted (c .before .before .m30 .given .1) (c .row39 .ensures) (record { eleven = refl; fields = refl; values = refl })
 
 pub slots-of-spec : {M : Type 1} → statement M
 slots-of-spec =

@@ -20,21 +20,24 @@ add-result c =
 
 cast-result-3 : tie.Need-cast-result-3
 cast-result-3 c =
-    let r = Unsigned.raised w8 128 256 (ofInteger 1) refl (omega arith) (omega arith) (λ n. refl) (λ n. refl) (c .before .args .v) (c .before .fits .v) (rw (toZ-ofZ (c .before .fits .v)) at (c .if1 .left)) in
-    rw (Unsigned.sum-back w8 128 256 (ofInteger 1) refl (omega arith) (omega arith) (λ n. refl) (λ n. refl) (c .before .args .v) (c .before .fits .v) r) (tt, record { fits = omega (arith, r .small) })
+    let a = c .before .args in
+    let r = Unsigned.raised w8 128 256 (ofInteger 1) refl (omega arith) (omega arith) (λ n. refl) (λ n. refl) (a .v) (c .before .fits .v) (rw (toZ-ofZ (c .before .fits .v)) at (c .if1 .left)) in
+    rw (Unsigned.sum-back w8 128 256 (ofInteger 1) refl (omega arith) (omega arith) (λ n. refl) (λ n. refl) (a .v) (c .before .fits .v) r) (tt, record { fits = omega (arith, r .small) })
 
 add-result-2 : tie.Need-add-result-2
 add-result-2 c =
-    let r = Unsigned.raised w8 128 256 (ofInteger 1) refl (omega arith) (omega arith) (λ n. refl) (λ n. refl) (c .before .args .v) (c .before .fits .v) (rw (toZ-ofZ (c .before .fits .v)) at (c .if1 .left)) in
-    rw (Unsigned.sum-back w8 128 256 (ofInteger 1) refl (omega arith) (omega arith) (λ n. refl) (λ n. refl) (c .before .args .v) (c .before .fits .v) r) (record { fits = omega (arith, r .small) })
+    let a = c .before .args in
+    let r = Unsigned.raised w8 128 256 (ofInteger 1) refl (omega arith) (omega arith) (λ n. refl) (λ n. refl) (a .v) (c .before .fits .v) (rw (toZ-ofZ (c .before .fits .v)) at (c .if1 .left)) in
+    rw (Unsigned.sum-back w8 128 256 (ofInteger 1) refl (omega arith) (omega arith) (λ n. refl) (λ n. refl) (a .v) (c .before .fits .v) r) (record { fits = omega (arith, r .small) })
 
 returns : tie.Need-returns
 returns c = rw (toZ-ofZ (c .before .fits .v)) (Unsigned.upper-bits w8 128 256 (ofInteger 1) refl (omega arith) (omega arith) (λ n. refl) (λ n. refl) (c .before .args .v) (rw (toZ-ofZ (c .before .fits .v)) at (c .if1 .taken)))
 
 returns-2 : tie.Need-returns-2
 returns-2 c =
-    let r = Unsigned.raised w8 128 256 (ofInteger 1) refl (omega arith) (omega arith) (λ n. refl) (λ n. refl) (c .before .args .v) (c .before .fits .v) (rw (toZ-ofZ (c .before .fits .v)) at (c .if1 .left)) in
-    rw (Unsigned.sum-back w8 128 256 (ofInteger 1) refl (omega arith) (omega arith) (λ n. refl) (λ n. refl) (c .before .args .v) (c .before .fits .v) r) (r .bits-are)
+    let a = c .before .args in
+    let r = Unsigned.raised w8 128 256 (ofInteger 1) refl (omega arith) (omega arith) (λ n. refl) (λ n. refl) (a .v) (c .before .fits .v) (rw (toZ-ofZ (c .before .fits .v)) at (c .if1 .left)) in
+    rw (Unsigned.sum-back w8 128 256 (ofInteger 1) refl (omega arith) (omega arith) (λ n. refl) (λ n. refl) (a .v) (c .before .fits .v) r) (r .bits-are)
 
 pub i8-bits-spec : {M : Type 1} → statement M
 i8-bits-spec =

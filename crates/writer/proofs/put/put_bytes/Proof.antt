@@ -24,7 +24,8 @@ add-out c = search needs
 
 slice-write-out : tie.Need-slice-write-out Inv-loop μ-loop
 slice-write-out c =
-    omega (arith, copied-length (c .before .before .before .args .out .now) (c .before .before .before .args .at) (c .before .before .before .args .bytes .now) (c .before .before .loop .i) (c .before .before .loop .out) (c .before .before .loop .inv) (c .before .before .before .pre))
+    let a = c .before .before .before .args in
+    omega (arith, copied-length (a .out .now) (a .at) (a .bytes .now) (c .before .before .loop .i) (c .before .before .loop .out) (c .before .before .loop .inv) (c .before .before .before .pre))
 
 add-i : tie.Need-add-i Inv-loop μ-loop
 add-i c = search needs
@@ -33,13 +34,20 @@ loop-less : tie.Need-loop-less Inv-loop μ-loop
 loop-less c = search needs
 
 loop-again : tie.Need-loop-again Inv-loop μ-loop
-loop-again c = copied-one (c .before .before .before .args .out .now) (c .before .before .before .args .at) (c .before .before .before .args .bytes .now) (c .before .before .loop .i) (c .before .before .loop .out) _ (c .before .before .loop .inv) (c .before .before .before .pre) (c .before .loop-test .taken) refl
+loop-again c =
+    let loop = c .before .before .loop in
+    let a = c .before .before .before .args in
+    copied-one (a .out .now) (a .at) (a .bytes .now) (loop .i) (loop .out) _ (loop .inv) (c .before .before .before .pre) (c .before .loop-test .taken) refl
 
 same-length : tie.Need-same-length Inv-loop μ-loop
-same-length c = copied-length (c .before .before .args .out .now) (c .before .before .args .at) (c .before .before .args .bytes .now) (c .before .loop .i) (c .before .loop .out) (c .before .loop .inv) (c .before .before .pre)
+same-length c =
+    let a = c .before .before .args in
+    copied-length (a .out .now) (a .at) (a .bytes .now) (c .before .loop .i) (c .before .loop .out) (c .before .loop .inv) (c .before .before .pre)
 
 returns : tie.Need-returns Inv-loop μ-loop
-returns c = copied-all (c .before .before .args .out .now) (c .before .before .args .at) (c .before .before .args .bytes .now) (c .before .loop .i) (c .before .loop .out) (c .before .loop .inv) (c .loop-test .left)
+returns c =
+    let a = c .before .before .args in
+    copied-all (a .out .now) (a .at) (a .bytes .now) (c .before .loop .i) (c .before .loop .out) (c .before .loop .inv) (c .loop-test .left)
 
 pub put-bytes-spec : {M : Type 1} → statement M
 put-bytes-spec =

@@ -45,7 +45,9 @@ add-out c = search needs
 
 slice-write-out : tie.Need-slice-write-out Inv-loop μ-loop
 slice-write-out c =
-    omega (arith, copied-length (c .before .before .args .out .now) (c .before .before .args .at) (lowFirst (c .before .before .args .width) (c .before .before .args .n)) (c .before .loop .i) (c .before .loop .out) (c .before .loop .inv .0) (room (c .before .before .args .width) (c .before .before .args .n) (c .before .before .args .at) (c .before .before .args .out .now) (c .before .before .pre)))
+    let loop = c .before .loop in
+    let a = c .before .before .args in
+    omega (arith, copied-length (a .out .now) (a .at) (lowFirst (a .width) (a .n)) (loop .i) (loop .out) (loop .inv .0) (room (a .width) (a .n) (a .at) (a .out .now) (c .before .before .pre)))
 
 add-i : tie.Need-add-i Inv-loop μ-loop
 add-i c = search needs
@@ -55,16 +57,24 @@ loop-less c = search needs
 
 loop-again : tie.Need-loop-again Inv-loop μ-loop
 loop-again c =
-    let width : ℕ = c .before .before .args .width in
-    let n : ℕ = c .before .before .args .n in
-    let turn = next width n (c .before .loop .i) (c .before .loop .left) (c .before .loop .inv .1) (omega (arith, c .loop-test .taken)) in
-    (copied-one (c .before .before .args .out .now) (c .before .before .args .at) (lowFirst (c .before .before .args .width) (c .before .before .args .n)) (c .before .loop .i) (c .before .loop .out) _ (c .before .loop .inv .0) (room width n (c .before .before .args .at) (c .before .before .args .out .now) (c .before .before .pre)) (omega (arith, low-length width n, c .loop-test .taken)) (turn .0), turn .1)
+    let loop = c .before .loop in
+    let a = c .before .before .args in
+    let width : ℕ = a .width in
+    let n : ℕ = a .n in
+    let turn = next width n (loop .i) (loop .left) (loop .inv .1) (omega (arith, c .loop-test .taken)) in
+    (copied-one (a .out .now) (a .at) (lowFirst (a .width) (a .n)) (loop .i) (loop .out) _ (loop .inv .0) (room width n (a .at) (a .out .now) (c .before .before .pre)) (omega (arith, low-length width n, c .loop-test .taken)) (turn .0), turn .1)
 
 same-length : tie.Need-same-length Inv-loop μ-loop
-same-length c = copied-length (c .before .before .args .out .now) (c .before .before .args .at) (lowFirst (c .before .before .args .width) (c .before .before .args .n)) (c .before .loop .i) (c .before .loop .out) (c .before .loop .inv .0) (room (c .before .before .args .width) (c .before .before .args .n) (c .before .before .args .at) (c .before .before .args .out .now) (c .before .before .pre))
+same-length c =
+    let loop = c .before .loop in
+    let a = c .before .before .args in
+    copied-length (a .out .now) (a .at) (lowFirst (a .width) (a .n)) (loop .i) (loop .out) (loop .inv .0) (room (a .width) (a .n) (a .at) (a .out .now) (c .before .before .pre))
 
 returns : tie.Need-returns Inv-loop μ-loop
-returns c = copied-all (c .before .before .args .out .now) (c .before .before .args .at) (lowFirst (c .before .before .args .width) (c .before .before .args .n)) (c .before .loop .i) (c .before .loop .out) (c .before .loop .inv .0) (omega (arith, low-length (c .before .before .args .width) (c .before .before .args .n), c .loop-test .left))
+returns c =
+    let loop = c .before .loop in
+    let a = c .before .before .args in
+    copied-all (a .out .now) (a .at) (lowFirst (a .width) (a .n)) (loop .i) (loop .out) (loop .inv .0) (omega (arith, low-length (a .width) (a .n), c .loop-test .left))
 
 pub put-low-spec : {M : Type 1} → statement M
 put-low-spec =

@@ -139,98 +139,128 @@ put-bytes-requires-2 c κs = room-at _ _ _ _ (c .before .before .enum-told3 .giv
 
 returns : tie.Need-returns
 unfolding slotBytes
-returns c = overwrite-at _ _ (c .before .before .before .args .out .now) (c .before .before .before .args .at) _ (c .enum-told .given .1) (sym (overwrite-nothing (c .before .before .before .args .out .now) (c .before .before .before .args .at)))
+returns c =
+    let a = c .before .before .before .args in
+    overwrite-at _ _ (a .out .now) (a .at) _ (c .enum-told .given .1) (sym (overwrite-nothing (a .out .now) (a .at)))
 
 same-length : tie.Need-same-length
 same-length c = search needs
 
 returns-2 : tie.Need-returns-2
 unfolding slotBytes
-returns-2 c = overwrite-at _ _ (c .before .before .before .before .before .before .before .before .args .out .now) (c .before .before .before .before .before .before .before .before .args .at) _ (c .before .before .before .before .before .slot .given .1) (c .before .before .put-low .ensures)
+returns-2 c =
+    let a = c .before .before .before .before .before .before .before .before .args in
+    overwrite-at _ _ (a .out .now) (a .at) _ (c .before .before .before .before .before .slot .given .1) (c .before .before .put-low .ensures)
 
 same-length-2 : tie.Need-same-length-2
 same-length-2 c = search needs
 
 returns-3 : tie.Need-returns-3
 unfolding slotBytes
-returns-3 c = overwrite-at _ _ (c .before .before .before .before .before .before .before .before .args .out .now) (c .before .before .before .before .before .before .before .before .args .at) _ (c .before .before .before .before .before .slot2 .given .1) (c .before .before .put-low2 .ensures)
+returns-3 c =
+    let a = c .before .before .before .before .before .before .before .before .args in
+    overwrite-at _ _ (a .out .now) (a .at) _ (c .before .before .before .before .before .slot2 .given .1) (c .before .before .put-low2 .ensures)
 
 same-length-3 : tie.Need-same-length-3
 same-length-3 c = search needs
 
 returns-4 : tie.Need-returns-4
 unfolding slotBytes
-returns-4 c = overwrite-at _ _ (c .before .before .before .before .before .before .before .before .args .out .now) (c .before .before .before .before .before .before .before .before .args .at) _ (c .before .before .before .before .before .slot3 .given .1) (c .before .before .put-low3 .ensures)
+returns-4 c =
+    let a = c .before .before .before .before .before .before .before .before .args in
+    overwrite-at _ _ (a .out .now) (a .at) _ (c .before .before .before .before .before .slot3 .given .1) (c .before .before .put-low3 .ensures)
 
 same-length-4 : tie.Need-same-length-4
 same-length-4 c = search needs
 
 returns-5 : tie.Need-returns-5
 unfolding slotBytes
-returns-5 c = overwrite-at _ _ (c .before .before .before .before .before .before .before .before .args .out .now) (c .before .before .before .before .before .before .before .before .args .at) _ (c .before .before .before .before .before .slot4 .given .1) (c .before .before .put-low4 .ensures)
+returns-5 c =
+    let a = c .before .before .before .before .before .before .before .before .args in
+    overwrite-at _ _ (a .out .now) (a .at) _ (c .before .before .before .before .before .slot4 .given .1) (c .before .before .put-low4 .ensures)
 
 same-length-5 : tie.Need-same-length-5
 same-length-5 c = search needs
 
 returns-6 : tie.Need-returns-6
 unfolding slotBytes
-returns-6 c = overwrite-at _ _ (c .before .before .before .before .before .before .before .before .args .out .now) (c .before .before .before .before .before .before .before .before .args .at) _ (c .before .before .before .before .before .slot5 .given .1) (c .before .before .put-low5 .ensures)
+returns-6 c =
+    let a = c .before .before .before .before .before .before .before .before .args in
+    overwrite-at _ _ (a .out .now) (a .at) _ (c .before .before .before .before .before .slot5 .given .1) (c .before .before .put-low5 .ensures)
 
 same-length-6 : tie.Need-same-length-6
 same-length-6 c = search needs
 
 returns-7 : tie.Need-returns-7
 unfolding slotBytes
-returns-7 c = overwrite-at _ _ (c .before .before .before .before .before .before .before .before .args .out .now) (c .before .before .before .before .before .before .before .before .args .at) _ (c .before .before .before .before .before .slot6 .given .1) (c .before .before .put-low6 .ensures)
+returns-7 c =
+    let a = c .before .before .before .before .before .before .before .before .args in
+    overwrite-at _ _ (a .out .now) (a .at) _ (c .before .before .before .before .before .slot6 .given .1) (c .before .before .put-low6 .ensures)
 
 same-length-7 : tie.Need-same-length-7
 same-length-7 c = search needs
 
 returns-8 : tie.Need-returns-8
 unfolding slotBytes
-returns-8 c = overwrite-at _ _ (c .before .before .before .before .before .before .before .before .args .out .now) (c .before .before .before .before .before .before .before .before .args .at) _ (c .before .before .before .before .before .slot7 .given .1) (c .before .before .put-low7 .ensures)
+returns-8 c =
+    let a = c .before .before .before .before .before .before .before .before .args in
+    overwrite-at _ _ (a .out .now) (a .at) _ (c .before .before .before .before .before .slot7 .given .1) (c .before .before .put-low7 .ensures)
 
 same-length-8 : tie.Need-same-length-8
 same-length-8 c = search needs
 
 returns-9 : tie.Need-returns-9
 unfolding slotBytes
-returns-9 c = overwrite-at _ _ (c .before .before .before .before .before .before .before .before .before .args .out .now) (c .before .before .before .before .before .before .before .before .before .args .at) _ (c .before .before .before .before .before .before .slot8 .given .1) (c .before .before .put-low8 .ensures ∙ ap (λ (n : ℕ). overwrite (c .before .before .before .before .before .before .before .before .before .args .out .now) (c .before .before .before .before .before .before .before .before .before .args .at) (lowFirst 1 n)) (c .before .before .before .i8-bits .ensures) ∙ ap (λ (z : ℤ). overwrite (c .before .before .before .before .before .before .before .before .before .args .out .now) (c .before .before .before .before .before .before .before .before .before .args .at) (lowFirst 1 (ofInteger 1 z))) (toZ-ofZ {w = w8} {z = c .before .before .before .before .before .before .slot8 .given .0 .0} (record { sfits = c .before .before .before .before .before .known-told8 .given .0 .1 })))
+returns-9 c =
+    let a = c .before .before .before .before .before .before .before .before .before .args in
+    let slot8 = c .before .before .before .before .before .before .slot8 in
+    overwrite-at _ _ (a .out .now) (a .at) _ (slot8 .given .1) (c .before .before .put-low8 .ensures ∙ ap (λ (n : ℕ). overwrite (a .out .now) (a .at) (lowFirst 1 n)) (c .before .before .before .i8-bits .ensures) ∙ ap (λ (z : ℤ). overwrite (a .out .now) (a .at) (lowFirst 1 (ofInteger 1 z))) (toZ-ofZ {w = w8} {z = slot8 .given .0 .0} (record { sfits = c .before .before .before .before .before .known-told8 .given .0 .1 })))
 
 same-length-9 : tie.Need-same-length-9
 same-length-9 c = search needs
 
 returns-10 : tie.Need-returns-10
 unfolding slotBytes
-returns-10 c = overwrite-at _ _ (c .before .before .before .before .before .before .before .before .before .args .out .now) (c .before .before .before .before .before .before .before .before .before .args .at) _ (c .before .before .before .before .before .before .slot9 .given .1) (c .before .before .put-low9 .ensures ∙ ap (λ (n : ℕ). overwrite (c .before .before .before .before .before .before .before .before .before .args .out .now) (c .before .before .before .before .before .before .before .before .before .args .at) (lowFirst 4 n)) (c .before .before .before .i32-bits .ensures) ∙ ap (λ (z : ℤ). overwrite (c .before .before .before .before .before .before .before .before .before .args .out .now) (c .before .before .before .before .before .before .before .before .before .args .at) (lowFirst 4 (ofInteger 4 z))) (toZ-ofZ {w = w32} {z = c .before .before .before .before .before .before .slot9 .given .0 .0} (record { sfits = c .before .before .before .before .before .known-told9 .given .0 .1 })))
+returns-10 c =
+    let a = c .before .before .before .before .before .before .before .before .before .args in
+    let slot9 = c .before .before .before .before .before .before .slot9 in
+    overwrite-at _ _ (a .out .now) (a .at) _ (slot9 .given .1) (c .before .before .put-low9 .ensures ∙ ap (λ (n : ℕ). overwrite (a .out .now) (a .at) (lowFirst 4 n)) (c .before .before .before .i32-bits .ensures) ∙ ap (λ (z : ℤ). overwrite (a .out .now) (a .at) (lowFirst 4 (ofInteger 4 z))) (toZ-ofZ {w = w32} {z = slot9 .given .0 .0} (record { sfits = c .before .before .before .before .before .known-told9 .given .0 .1 })))
 
 same-length-10 : tie.Need-same-length-10
 same-length-10 c = search needs
 
 returns-11 : tie.Need-returns-11
 unfolding slotBytes
-returns-11 c = overwrite-at _ _ (c .before .before .before .before .before .before .before .before .args .out .now) (c .before .before .before .before .before .before .before .before .args .at) _ (c .before .before .before .before .before .slot10 .given .1) (c .before .before .put-high .ensures)
+returns-11 c =
+    let a = c .before .before .before .before .before .before .before .before .args in
+    overwrite-at _ _ (a .out .now) (a .at) _ (c .before .before .before .before .before .slot10 .given .1) (c .before .before .put-high .ensures)
 
 same-length-11 : tie.Need-same-length-11
 same-length-11 c = search needs
 
 returns-12 : tie.Need-returns-12
 unfolding slotBytes
-returns-12 c = overwrite-at _ _ (c .before .before .before .before .before .before .before .before .args .out .now) (c .before .before .before .before .before .before .before .before .args .at) _ (c .before .before .before .before .before .slot11 .given .1) (c .before .before .put-low10 .ensures)
+returns-12 c =
+    let a = c .before .before .before .before .before .before .before .before .args in
+    overwrite-at _ _ (a .out .now) (a .at) _ (c .before .before .before .before .before .slot11 .given .1) (c .before .before .put-low10 .ensures)
 
 same-length-12 : tie.Need-same-length-12
 same-length-12 c = search needs
 
 returns-13 : tie.Need-returns-13
 unfolding slotBytes
-returns-13 c = overwrite-at _ _ (c .before .before .before .before .before .before .before .before .args .out .now) (c .before .before .before .before .before .before .before .before .args .at) _ (c .before .before .before .before .before .enum-told2 .given .1) (c .before .before .put-bytes .ensures)
+returns-13 c =
+    let a = c .before .before .before .before .before .before .before .before .args in
+    overwrite-at _ _ (a .out .now) (a .at) _ (c .before .before .before .before .before .enum-told2 .given .1) (c .before .before .put-bytes .ensures)
 
 same-length-13 : tie.Need-same-length-13
 same-length-13 c = search needs
 
 returns-14 : tie.Need-returns-14
 unfolding slotBytes
-returns-14 c = overwrite-at _ _ (c .before .before .before .before .before .before .before .before .args .out .now) (c .before .before .before .before .before .before .before .before .args .at) _ (c .before .before .before .before .before .enum-told3 .given .1) (c .before .before .put-bytes2 .ensures)
+returns-14 c =
+    let a = c .before .before .before .before .before .before .before .before .args in
+    overwrite-at _ _ (a .out .now) (a .at) _ (c .before .before .before .before .before .enum-told3 .given .1) (c .before .before .put-bytes2 .ensures)
 
 pub put-slot-spec : {M : Type 1} → statement M
 put-slot-spec =
