@@ -7,6 +7,7 @@ use mathlib.Core.List.{List, [], _∷_}
 use mathlib.Core.Logic.{⊎-elim}
 use borrow.Author.Tests.{leb-true, leb-false, lt-ltb}
 use lib.Dec.{leb}
+use lib.ListN.{replicate}
 use Rattle.protocol.proofs.Tests.{which}
 use Rattle.protocol.specs.Form.{layout}
 use Rattle.protocol.specs.declared.Message.{Message}
@@ -60,3 +61,10 @@ module _ (port e0 e1 e2 e3 e4 e5 e6 e7 : ℕ) where
 -- slots and a message that are known by equations
 pub slotted : {m n : Message} {r s : List Slot} → m ≡ n → r ≡ s → Slotted n s → Slotted m r
 slotted e k x = rw (e, k) x
+
+-- 0x43, information type 1, over plain numbers: its last two fields are of one kind
+pub mode-slots : {m : Message} {r : List Slot} (port capabilities count input output : ℕ) → m ≡ Message'.PortModes port capabilities count input output
+    → r ≡ Slot'.Byte 0x43 ∷ Slot'.Byte port ∷ Slot'.Byte 1 ∷ Slot'.UpTo 15 capabilities ∷ Slot'.Byte count ∷ Slot'.Word input ∷ Slot'.Word output ∷ replicate 4 Slot'.Nothing
+    → Slotted m r
+unfolding layout
+mode-slots port capabilities count input output e k = slotted e k (record { eleven = refl; fields = refl; values = refl })

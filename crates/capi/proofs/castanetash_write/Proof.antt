@@ -1,13 +1,10 @@
-use mathlib.Core.Path.{_≡_, sym, _∙_, ap}
+use mathlib.Core.Path.{sym, _∙_}
 use lib.ListN.{length}
-use Rattle.protocol.specs.Encode.{Encoded, encode}
-use Rattle.writer.specs.Writing.{limited, lentAfter}
-use Rattle.protocol.specs.declared.Way.{Way}
+use Rattle.protocol.specs.Encode.{encode}
+use Rattle.protocol.specs.declared.Message.{Message}
+use Rattle.writer.specs.Writing.{limited}
 use Rattle.message_rows.specs.Row.{wayOf}
-use Rattle.row_messages.specs.FromRow.{messageFromRow}
-use Rattle.capi.specs.Written.{writtenFrom, answerNumber}
-use Rattle.row_messages.specs.declared.FromRow.{FromRow}
-use Rattle.row_messages.specs.declared.FromRow.the-variants.{Found, Nothing}
+use Rattle.capi.proofs.Numbers.{none-written, found-written}
 use borrow.Author.Needs.{needs}
 use Rattle.capi.proofs.castanetash_write.Statement.{statement}
 use Rattle.capi.proofs.castanetash_write.Tie as tie
@@ -36,26 +33,20 @@ number-of-requires c κs = search needs
 returns : tie.Need-returns
 returns c =
     let a = c .before .before .before .before .before .before .args in
-    let none : messageFromRow (a .cells .now) ≡ Nothing = sym (c .before .before .find .ensures) ∙ c .enum-told .given .1 in
-    (sym (ap (λ (g : FromRow). answerNumber (writtenFrom g (length (a .out .now)) (wayOf (a .way)) (a .«open» .now))) none), sym (ap (λ (g : FromRow). lentAfter (writtenFrom g (length (a .out .now)) (wayOf (a .way)) (a .«open» .now)) (a .out .now)) none))
+    none-written _ (wayOf (a .way)) (a .«open» .now) (a .out .now) (sym (c .before .before .find .ensures) ∙ c .enum-told .given .1)
 
 same-length : tie.Need-same-length
 same-length c = search needs
 
 returns-2 : tie.Need-returns-2
 returns-2 c =
-    let m = c .before .before .before .before .before .before .before .m in
-    let a = c .before .before .before .before .before .before .before .before .before .before .before .before .before .args in
-    let f = m .given .0 in
+    let told = c .before .before .before .before .before .before .before in
+    let a = told .before .before .before .before .before .before .args in
+    let m : Message = told .m .given .0 .0 in
     let way-of = c .before .before .before .before .before .way-of in
     let write = c .before .before .before .write in
-    let found : messageFromRow (a .cells .now) ≡ Found (f .0) = sym (c .before .before .before .before .before .before .before .before .before .find .ensures) ∙ m .given .1 in
-    let way : way-of .result ≡ wayOf (a .way) = way-of .ensures in
-    let e : Encoded = limited (length (a .out .now)) (encode (way-of .result) (f .0) (a .«open» .now)) in
-    let same : e ≡ limited (length (a .out .now)) (encode (wayOf (a .way)) (f .0) (a .«open» .now)) = ap (λ (w : Way). limited (length (a .out .now)) (encode w (f .0) (a .«open» .now))) way in (
-      c .number-of .ensures e (write .ensures .0) ∙ ap answerNumber same ∙ sym (ap (λ (g : FromRow). answerNumber (writtenFrom g (length (a .out .now)) (wayOf (a .way)) (a .«open» .now))) found),
-      write .ensures .1 ∙ ap (λ (d : Encoded). lentAfter d (a .out .now)) same ∙ sym (ap (λ (g : FromRow). lentAfter (writtenFrom g (length (a .out .now)) (wayOf (a .way)) (a .«open» .now)) (a .out .now)) found),
-    )
+    let number = c .number-of .ensures (limited (length (a .out .now)) (encode (way-of .result) m (a .«open» .now))) (write .ensures .0) in
+    found-written _ m _ (wayOf (a .way)) (a .«open» .now) (a .out .now) _ _ (sym (told .before .before .find .ensures) ∙ told .m .given .1) (way-of .ensures) number (write .ensures .1)
 
 pub castanetash-write-spec : {M : Type 1} → statement M
 castanetash-write-spec =

@@ -2,7 +2,7 @@ use mir.Syntax.{w8, w32}
 use mir.Facts.{toZ-ofZ}
 use mathlib.Core.Path.{refl}
 use Rattle.protocol.specs.Form.{layout}
-use Rattle.slots.proofs.Rows.{slotted}
+use Rattle.slots.proofs.Rows.{mode-slots, slotted}
 use borrow.Author.Needs.{needs}
 use Rattle.slots.proofs.form.slots_of.Statement.{statement}
 use Rattle.slots.proofs.form.slots_of.Tie as tie
@@ -293,8 +293,9 @@ unfolding layout
 returns-21 c = slotted (c .before .before .m18 .given .1) (c .row4 .ensures) (record { eleven = refl; fields = refl; values = refl })
 
 returns-22 : tie.Need-returns-22
-unfolding layout
-returns-22 c = slotted (c .before .before .m19 .given .1) (c .row6 .ensures) (record { eleven = refl; fields = refl; values = refl })
+returns-22 c =
+    let f = c .before .before .m19 .given .0 in
+    mode-slots (f .0) (f .1 .0) (f .1 .1 .0) (f .1 .1 .1 .0) (f .1 .1 .1 .1 .0) (c .before .before .m19 .given .1) (c .row6 .ensures)
 
 returns-23 : tie.Need-returns-23
 unfolding layout
