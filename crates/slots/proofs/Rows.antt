@@ -6,10 +6,11 @@ use mathlib.Core.Bool.{true, false}
 use mathlib.Core.List.{List, [], _∷_}
 use mathlib.Core.Logic.{⊎-elim}
 use borrow.Author.Tests.{leb-true, leb-false, lt-ltb}
-use lib.Dec.{leb}
+use lib.Dec.{leb, ltb}
 use lib.ListN.{replicate}
 use Rattle.protocol.proofs.Tests.{which}
 use Rattle.protocol.specs.Form.{layout}
+use Rattle.protocol.specs.declared.Combinations.{Combinations}
 use Rattle.protocol.specs.declared.Message.{Message}
 use Rattle.protocol.specs.declared.Message.the-variants as Message'
 use Rattle.slots.specs.Slot.{Slotted, wordSlot}
@@ -52,11 +53,17 @@ module _ (port e0 e1 e2 e3 e4 e5 e6 e7 : ℕ) where
 
   many : (n : ℕ) → 8 < n → leb n 8 ≡ false → Slotted (combined n) (wordRow n)
   unfolding layout
-  many n h e = rw (lt-ltb 0 n (omega arith), lt-ltb 1 n (omega arith), lt-ltb 2 n (omega arith), lt-ltb 3 n (omega arith), lt-ltb 4 n (omega arith), lt-ltb 5 n (omega arith), lt-ltb 6 n (omega arith), lt-ltb 7 n (omega arith)) (record { eleven = refl; fields = rw e; values = rw e })
+  many n h e =
+      let below : (i : ℕ) → i ≤ 7 → ltb i n ≡ true = λ i k. lt-ltb i n (omega arith) in
+      rw (below 0 (omega arith), below 1 (omega arith), below 2 (omega arith), below 3 (omega arith), below 4 (omega arith), below 5 (omega arith), below 6 (omega arith), below 7 (omega arith))
+      (record { eleven = refl; fields = rw e; values = rw e })
 
-  pub combination-slots : (n : ℕ) → Slotted (combined n) (wordRow n)
-  combination-slots n =
+  any-count : (n : ℕ) → Slotted (combined n) (wordRow n)
+  any-count n =
       ⊎-elim (λ (yes : leb n 8 ≡ true). few n (leb-true n 8 yes)) (λ (no : leb n 8 ≡ false). many n (leb-false n 8 no) no) (which (leb n 8))
+
+pub combination-slots : (port : ℕ) (k : Combinations) → Slotted (Message'.PortCombinations port k) (wordRow port (k .entry0) (k .entry1) (k .entry2) (k .entry3) (k .entry4) (k .entry5) (k .entry6) (k .entry7) (k .count))
+combination-slots port k = any-count port (k .entry0) (k .entry1) (k .entry2) (k .entry3) (k .entry4) (k .entry5) (k .entry6) (k .entry7) (k .count)
 
 -- slots and a message that are known by equations
 pub slotted : {m n : Message} {r s : List Slot} → m ≡ n → r ≡ s → Slotted n s → Slotted m r

@@ -7,6 +7,7 @@ use lib.ListN.{length}
 use mir.Val.{Val}
 use denote.Laws.{Is}
 use denote.Enum.Declared.{row}
+use Rattle.protocol.specs.Encode.{lowFirst}
 use Rattle.protocol.specs.Overwrite.{overwrite}
 use Rattle.slots.specs.Slot.{slotFits, slotBytes}
 use Rattle.slots.specs.declared.Slot.{Slot}
@@ -21,3 +22,7 @@ overwrite-at s t d at l e h = h ∙ ap (λ (u : Slot). overwrite d at (slotBytes
 
 pub finite-at : (s t : Slot) (vs : List Val) → Is (row the-type) s vs → slotFits s ≡ true → s ≡ t → slotTest t ≡ true
 finite-at s t vs g h e = sym (ap slotTest e) ∙ sym (tested s vs g) ∙ h
+
+-- the low bytes of a number that is known by an equation
+pub low-at : (d : List ℕ) (at w : ℕ) {l : List ℕ} {n m : ℕ} → n ≡ m → l ≡ overwrite d at (lowFirst w n) → l ≡ overwrite d at (lowFirst w m)
+low-at d at w e h = h ∙ ap (λ (k : ℕ). overwrite d at (lowFirst w k)) e

@@ -47,7 +47,10 @@ returns-9 c = rw (sym (c .before .before .carries .ensures) ∙ c .before .if1 .
 
 returns-10 : tie.Need-returns-10
 unfolding propertyForm payload
-returns-10 c = simp (sym (c .before .before .carries .ensures) ∙ c .before .if1 .taken, ne-eqb _ _ (c .match .rest .0 .0 .0 .0 .0 .0 .0 .0 .1), ne-eqb _ _ (c .match .rest .0 .0 .0 .0 .0 .0 .0 .1), ne-eqb _ _ (c .match .rest .0 .0 .0 .0 .0 .0 .1), ne-eqb _ _ (c .match .rest .0 .0 .0 .0 .0 .1), ne-eqb _ _ (c .match .rest .0 .0 .0 .0 .1), ne-eqb _ _ (c .match .rest .0 .0 .0 .1), ne-eqb _ _ (c .match .rest .0 .0 .1), ne-eqb _ _ (c .match .rest .0 .1), ne-eqb _ _ (c .match .rest .1))
+returns-10 c =
+    let carried = sym (c .before .before .carries .ensures) ∙ c .before .if1 .taken in
+    let r = c .match .rest .0 .0 .0 .0 in
+    simp (carried, ne-eqb _ _ (r .0 .0 .0 .0 .1), ne-eqb _ _ (r .0 .0 .0 .1), ne-eqb _ _ (r .0 .0 .1), ne-eqb _ _ (r .0 .1), ne-eqb _ _ (r .1), ne-eqb _ _ (c .match .rest .0 .0 .0 .1), ne-eqb _ _ (c .match .rest .0 .0 .1), ne-eqb _ _ (c .match .rest .0 .1), ne-eqb _ _ (c .match .rest .1))
 
 returns-11 : tie.Need-returns-11
 unfolding propertyForm

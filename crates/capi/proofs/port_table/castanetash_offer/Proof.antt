@@ -24,7 +24,9 @@ returns c =
     let a = c .before .before .before .before .before .before .before .before .args in
     let way-of = c .before .before .before .before .way-of in
     let offer = c .before .before .before .offer in
-    (c .outcome-number .ensures ∙ ap outcomeNumber (offer .ensures .0 ∙ ap (λ (w : Way). outcome (offerByCells (a .table .now) (record { way = w; bytes = a .message .now }))) (way-of .ensures)), offer .ensures .1 ∙ ap (λ (w : Way). cellsAfter (a .table .now) (record { way = w; bytes = a .message .now })) (way-of .ensures))
+    let answer = offer .ensures .0 ∙ ap (λ (w : Way). outcome (offerByCells (a .table .now) (record { way = w; bytes = a .message .now }))) (way-of .ensures) in
+    let cells = offer .ensures .1 ∙ ap (λ (w : Way). cellsAfter (a .table .now) (record { way = w; bytes = a .message .now })) (way-of .ensures) in
+    (c .outcome-number .ensures ∙ ap outcomeNumber answer, cells)
 
 pub castanetash-offer-spec : {M : Type 1} → statement M
 castanetash-offer-spec =

@@ -29,8 +29,9 @@ word-requires-8 c κs = search needs
 
 returns : tie.Need-returns
 returns c =
-    let a = c .before .before .before .before .before .before .before .before .args in
-    rw (c .before .before .before .before .before .before .before .word .ensures, c .before .before .before .before .before .before .word2 .ensures, c .before .before .before .before .before .word3 .ensures, c .before .before .before .before .word4 .ensures, c .before .before .before .word5 .ensures, c .before .before .word6 .ensures, c .before .word7 .ensures, c .word8 .ensures) (combination-slots (a .port) (a .c .entry0) (a .c .entry1) (a .c .entry2) (a .c .entry3) (a .c .entry4) (a .c .entry5) (a .c .entry6) (a .c .entry7) (a .c .count))
+    let w = c .before .before .before .before .before .before .before in
+    rw (w .word .ensures, c .before .before .before .before .before .before .word2 .ensures, c .before .before .before .before .before .word3 .ensures, c .before .before .before .before .word4 .ensures)
+    (rw (c .before .before .before .word5 .ensures, c .before .before .word6 .ensures, c .before .word7 .ensures, c .word8 .ensures) (combination-slots (w .before .args .port) (w .before .args .c)))
 
 pub combination-row-spec : {M : Type 1} → statement M
 combination-row-spec =

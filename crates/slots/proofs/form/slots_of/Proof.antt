@@ -1,11 +1,19 @@
-use mir.Syntax.{w8, w32}
+use Prim.Native.Nat.{_^_, _<_}
+use lib.IntN.{ℤ}
+use lib.Signed.{mag}
+use mir.Syntax.{Width, w8, w32}
+use mir.Val.{hbits, toZ, ofZ}
 use mir.Facts.{toZ-ofZ}
-use mathlib.Core.Path.{refl}
+use mathlib.Core.Path.{_≡_, refl}
 use Rattle.protocol.specs.Form.{layout}
 use Rattle.slots.proofs.Rows.{mode-slots, slotted}
 use borrow.Author.Needs.{needs}
 use Rattle.slots.proofs.form.slots_of.Statement.{statement}
 use Rattle.slots.proofs.form.slots_of.Tie as tie
+
+-- a signed number that fits its width is the same in its bits
+same : (w : Width) (z : ℤ) → mag z < 2 ^ hbits w → toZ w (ofZ w z) ≡ z
+same w z h = toZ-ofZ (record { sfits = h })
 
 enum-known-m : tie.Need-enum-known-m
 enum-known-m c = search needs
@@ -222,11 +230,11 @@ returns-3 c = slotted (c .before .before .before .m3 .given .1) (c .row3 .ensure
 
 returns-4 : tie.Need-returns-4
 unfolding layout
-returns-4 c = slotted (c .before .before .m4 .given .1) (c .row32 .ensures) (record { eleven = refl; fields = refl; values = rw (toZ-ofZ {w = w8} {z = c .before .before .m4 .given .0 .1 .0} (record { sfits = c .before .known-told4 .given .1 .0 .1 })) })
+returns-4 c = slotted (c .before .before .m4 .given .1) (c .row32 .ensures) (record { eleven = refl; fields = refl; values = rw (same w8 (c .before .before .m4 .given .0 .1 .0) (c .before .known-told4 .given .1 .0 .1)) })
 
 returns-5 : tie.Need-returns-5
 unfolding layout
-returns-5 c = slotted (c .before .before .m5 .given .1) (c .row33 .ensures) (record { eleven = refl; fields = refl; values = rw (toZ-ofZ {w = w32} {z = c .before .before .m5 .given .0 .1 .1 .0} (record { sfits = c .before .known-told5 .given .1 .1 .0 .1 })) })
+returns-5 c = slotted (c .before .before .m5 .given .1) (c .row33 .ensures) (record { eleven = refl; fields = refl; values = rw (same w32 (c .before .before .m5 .given .0 .1 .1 .0) (c .before .known-told5 .given .1 .1 .0 .1)) })
 
 returns-6 : tie.Need-returns-6
 unfolding layout
@@ -254,7 +262,9 @@ returns-11 c = slotted (c .before .before .m11 .given .1) (c .row24 .ensures) (r
 
 returns-12 : tie.Need-returns-12
 unfolding layout
-returns-12 c = slotted (c .before .before .m12 .given .1) (c .row5 .ensures) (record { eleven = refl; fields = refl; values = rw (toZ-ofZ {w = w32} {z = c .before .before .m12 .given .0 .1 .1 .0} (record { sfits = c .before .known-told12 .given .1 .1 .0 .1 }), toZ-ofZ {w = w32} {z = c .before .before .m12 .given .0 .1 .1 .1 .0} (record { sfits = c .before .known-told12 .given .1 .1 .1 .0 .1 })) })
+returns-12 c =
+    slotted (c .before .before .m12 .given .1) (c .row5 .ensures)
+    (record { eleven = refl; fields = refl; values = rw (same w32 (c .before .before .m12 .given .0 .1 .1 .0) (c .before .known-told12 .given .1 .1 .0 .1), same w32 (c .before .before .m12 .given .0 .1 .1 .1 .0) (c .before .known-told12 .given .1 .1 .1 .0 .1)) })
 
 returns-13 : tie.Need-returns-13
 unfolding layout

@@ -9,7 +9,7 @@ use Rattle.protocol.proofs.Floats.{not-nan}
 use mathlib.Core.Path.{sym, _∙_, ap}
 use Rattle.protocol.specs.Encode.{lowFirst, ofInteger}
 use Rattle.protocol.proofs.Overwrite.{overwrite-nothing}
-use Rattle.writer.proofs.Cases.{room-at, overwrite-at, finite-at}
+use Rattle.writer.proofs.Cases.{room-at, overwrite-at, finite-at, low-at}
 use Rattle.protocol.specs.Overwrite.{overwrite}
 use Rattle.slots.specs.Slot.{slotBytes}
 use borrow.Author.Needs.{needs}
@@ -213,8 +213,10 @@ returns-9 : tie.Need-returns-9
 unfolding slotBytes
 returns-9 c =
     let a = c .before .before .before .before .before .before .before .before .before .args in
-    let slot8 = c .before .before .before .before .before .before .slot8 in
-    overwrite-at _ _ (a .out .now) (a .at) _ (slot8 .given .1) (c .before .before .put-low8 .ensures ∙ ap (λ (n : ℕ). overwrite (a .out .now) (a .at) (lowFirst 1 n)) (c .before .before .before .i8-bits .ensures) ∙ ap (λ (z : ℤ). overwrite (a .out .now) (a .at) (lowFirst 1 (ofInteger 1 z))) (toZ-ofZ {w = w8} {z = slot8 .given .0 .0} (record { sfits = c .before .before .before .before .before .known-told8 .given .0 .1 })))
+    let told = c .before .before .before .before .before in
+    let signed = toZ-ofZ {w = w8} {z = told .before .slot8 .given .0 .0} (record { sfits = told .known-told8 .given .0 .1 }) in
+    let bits = c .before .before .before .i8-bits .ensures ∙ ap (ofInteger 1) signed in
+    overwrite-at _ _ (a .out .now) (a .at) _ (told .before .slot8 .given .1) (low-at (a .out .now) (a .at) 1 bits (c .before .before .put-low8 .ensures))
 
 same-length-9 : tie.Need-same-length-9
 same-length-9 c = search needs
@@ -223,8 +225,10 @@ returns-10 : tie.Need-returns-10
 unfolding slotBytes
 returns-10 c =
     let a = c .before .before .before .before .before .before .before .before .before .args in
-    let slot9 = c .before .before .before .before .before .before .slot9 in
-    overwrite-at _ _ (a .out .now) (a .at) _ (slot9 .given .1) (c .before .before .put-low9 .ensures ∙ ap (λ (n : ℕ). overwrite (a .out .now) (a .at) (lowFirst 4 n)) (c .before .before .before .i32-bits .ensures) ∙ ap (λ (z : ℤ). overwrite (a .out .now) (a .at) (lowFirst 4 (ofInteger 4 z))) (toZ-ofZ {w = w32} {z = slot9 .given .0 .0} (record { sfits = c .before .before .before .before .before .known-told9 .given .0 .1 })))
+    let told = c .before .before .before .before .before in
+    let signed = toZ-ofZ {w = w32} {z = told .before .slot9 .given .0 .0} (record { sfits = told .known-told9 .given .0 .1 }) in
+    let bits = c .before .before .before .i32-bits .ensures ∙ ap (ofInteger 4) signed in
+    overwrite-at _ _ (a .out .now) (a .at) _ (told .before .slot9 .given .1) (low-at (a .out .now) (a .at) 4 bits (c .before .before .put-low9 .ensures))
 
 same-length-10 : tie.Need-same-length-10
 same-length-10 c = search needs
