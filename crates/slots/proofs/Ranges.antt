@@ -1,6 +1,6 @@
 -- What a slot's type says of its value, and so which tests are left.
-use Prim.Native.Nat.{ℕ, _+_, _<_, _≤_}
-use mathlib.Core.Path.{_≡_, refl, sym, _∙_, ap}
+use Prim.Native.Nat.{ℕ, _<_}
+use mathlib.Core.Path.{_≡_, refl, _∙_}
 use mathlib.Core.Bool.{Bool, true, false, _&&_}
 use mathlib.Core.List.{List}
 use borrow.Author.Tests.{lt-ltb}
@@ -21,7 +21,6 @@ use Rattle.protocol.specs.Form.{informationType, alertStatus}
 use Rattle.protocol.specs.Encode.{lowFirst, inRange, ofInteger}
 use Rattle.slots.proofs.Slot.{the-type}
 use Rattle.slots.proofs.Slot.Laws.{the-laws}
-use Rattle.protocol.specs.Overwrite.{overwrite}
 use Rattle.slots.specs.Slot.{slotFits, slotBytes}
 use Rattle.slots.specs.declared.Slot.{Slot}
 use Rattle.slots.specs.declared.Slot.the-variants as Slot'

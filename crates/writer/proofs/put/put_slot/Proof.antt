@@ -1,16 +1,13 @@
-use Prim.Native.Nat.{ℕ}
 use native.Mathlib.Omega.{arith}
-use lib.IntN.{ℤ}
 use lib.Ieee.{binary32}
 use lib.Ieee.Bits.{toBits-lt}
 use mir.Syntax.{w8, w32}
 use mir.Facts.{toZ-ofZ}
 use Rattle.protocol.proofs.Floats.{not-nan}
 use mathlib.Core.Path.{sym, _∙_, ap}
-use Rattle.protocol.specs.Encode.{lowFirst, ofInteger}
+use Rattle.protocol.specs.Encode.{ofInteger}
 use Rattle.protocol.proofs.Overwrite.{overwrite-nothing}
 use Rattle.writer.proofs.Cases.{room-at, overwrite-at, finite-at, low-at}
-use Rattle.protocol.specs.Overwrite.{overwrite}
 use Rattle.slots.specs.Slot.{slotBytes}
 use borrow.Author.Needs.{needs}
 use Rattle.writer.proofs.put.put_slot.Statement.{statement}
