@@ -5,8 +5,8 @@ use lib.ListN.{length}
 use Rattle.protocol.specs.Encode.{Encoded, refused, encoded, encode}
 use Rattle.writer.specs.Writing.{limited}
 use Rattle.protocol.specs.declared.Way.{Way}
-use Rattle.message_cells.specs.declared.from_row.FromRow.{FromRow}
-use Rattle.message_cells.specs.declared.from_row.FromRow.the-variants.{Found, Nothing}
+use Rattle.row_messages.specs.declared.FromRow.{FromRow}
+use Rattle.row_messages.specs.declared.FromRow.the-variants.{Found, Nothing}
 
 -- writing what cells stand for into so much room; cells that are no message's are 255
 abbrev pub writtenFrom : FromRow → ℕ → Way → List ℕ → Encoded

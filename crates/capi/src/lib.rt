@@ -7,11 +7,11 @@ use crate::fill::put;
 use crate::way::way_of;
 use codec::open_part;
 use codec::read;
-use message_cells::from_row::FromRow;
-use message_cells::from_row::find;
-use message_cells::message::message_row;
+use message_rows::message_row;
 use protocol::Reading;
 use protocol::Written;
+use row_messages::FromRow;
+use row_messages::find;
 use writer::write;
 ghost use mathlib.Core.Path.{_≡_};
 ghost use Prim.Native.Nat.{_≤_};
@@ -19,8 +19,8 @@ ghost use lib.ListN.{length};
 ghost use Rattle.protocol.specs.Answer.{answerOf};
 ghost use Rattle.protocol.specs.Encode.{Encoded};
 ghost use Rattle.writer.specs.Writing.{lentAfter, writtenOf};
-ghost use Rattle.message_cells.specs.Row.{rowAfter, rowOf, filled, openStart, wayOf};
-ghost use Rattle.message_cells.specs.FromRow.{messageFromRow};
+ghost use Rattle.message_rows.specs.Row.{rowAfter, rowOf, filled, openStart, wayOf};
+ghost use Rattle.row_messages.specs.FromRow.{messageFromRow};
 ghost use Rattle.capi.specs.Written.{answerNumber, writtenFrom};
 
 // Where the last `count` of `size` bytes start; 0 where there are none.

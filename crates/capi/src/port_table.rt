@@ -13,7 +13,7 @@ use table_cells::port_row;
 ghost use mathlib.Core.Path.{_≡_};
 ghost use Rattle.rules.specs.Answer.{outcome};
 ghost use Rattle.rules.specs.Offer.{cellsAfter, datasetByCells, offerByCells};
-ghost use Rattle.message_cells.specs.Row.{wayOf};
+ghost use Rattle.message_rows.specs.Row.{wayOf};
 ghost use Rattle.table.specs.FormatAnswer.{formatByCells};
 ghost use Rattle.table.specs.OfferAnswer.{emptied, emptyAnswer};
 ghost use Rattle.table.specs.PortAnswer.{portByCells};

@@ -22,11 +22,12 @@ use Rattle.protocol.specs.declared.Written.the-variants as Written'
 use Rattle.protocol.specs.declared.Combinations.{Combinations}
 use Rattle.protocol.specs.declared.Message.{Message}
 use Rattle.protocol.specs.declared.Message.the-variants as Message'
-use Rattle.writer.proofs.Ranges.{wide}
-use Rattle.writer.specs.Slot.{slotFits, slotBytes, slotFields, slotValues, Slotted, atMost, wordFields, wordValues, slotsBytes, firstOutside, typePlace, fromTypeByte, messageBytes}
+use Rattle.slots.proofs.Ranges.{wide}
+use Rattle.slots.specs.Slot.{slotFits, slotBytes, slotFields, slotValues, Slotted, atMost, wordFields, wordValues}
+use Rattle.writer.specs.Slots.{slotsBytes, firstOutside, typePlace, fromTypeByte, messageBytes}
 use Rattle.writer.specs.Open.{openFits}
-use Rattle.writer.specs.declared.slot.Slot.{Slot}
-use Rattle.writer.specs.declared.slot.Slot.the-variants as Slot'
+use Rattle.slots.specs.declared.Slot.{Slot}
+use Rattle.slots.specs.declared.Slot.the-variants as Slot'
 
 -- ---- slots, written one after the other
 

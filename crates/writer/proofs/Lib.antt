@@ -1,7 +1,5 @@
-pub mod Choices
 pub mod Encoding
 pub mod Copying
-pub mod Ranges
-pub mod Rows
+pub mod Cases
 pub mod Walk
 pub mod Whole

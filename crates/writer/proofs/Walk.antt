@@ -11,8 +11,9 @@ use lib.Seq.{drop-cons, take-suc}
 use Rattle.protocol.proofs.Tests.{which}
 use Rattle.protocol.proofs.Overwrite.{overwrite-then, overwrite-length}
 use Rattle.protocol.specs.Overwrite.{overwrite}
-use Rattle.writer.specs.Slot.{slotFits, slotBytes, slotsBytes, firstOutside, typePlace}
-use Rattle.writer.specs.declared.slot.Slot.{Slot}
+use Rattle.slots.specs.Slot.{slotFits, slotBytes}
+use Rattle.writer.specs.Slots.{slotsBytes, firstOutside, typePlace}
+use Rattle.slots.specs.declared.Slot.{Slot}
 
 module _ (slots : List Slot) (d : Slot) where
   -- the slot at an index and those after it

@@ -2,16 +2,17 @@
 use Prim.Native.Nat.{ℕ, _+_, _≤_, _<_}
 use native.Mathlib.Nat.{zero-add}
 use native.Mathlib.Omega.{arith}
-use mathlib.Core.Path.{_≡_, refl, _∙_, ap}
+use mathlib.Core.Path.{_≡_, refl, sym, _∙_, ap}
 use mathlib.Core.List.{List, [], _∷_, _++_}
 use borrow.Author.Tests.{lt-ltb, le-ltb}
 use lib.ListN.{length, set, drop, length-append, length-set}
-use Rattle.protocol.specs.Encode.{encoded, refused}
-use Rattle.writer.specs.Writing.{limited}
+use Rattle.protocol.specs.Encode.{Encoded, encoded, refused}
+use Rattle.protocol.specs.declared.Written.the-variants.{Length, Refused}
+use Rattle.writer.specs.Writing.{limited, writtenOf, lentAfter}
 use Rattle.protocol.proofs.Overwrite.{overwrite-then}
 use Rattle.protocol.specs.Overwrite.{overwrite}
-use Rattle.writer.specs.Slot.{slotsBytes, typePlace, messageBytes}
-use Rattle.writer.specs.declared.slot.Slot.{Slot}
+use Rattle.writer.specs.Slots.{slotsBytes, typePlace, messageBytes}
+use Rattle.slots.specs.declared.Slot.{Slot}
 
 -- at the front
 front : (out bytes : List ℕ) → overwrite out 0 bytes ≡ bytes ++ drop (length bytes) out
@@ -34,15 +35,15 @@ module _ (slots : List Slot) (opens : List ℕ) (w : ℕ) (is : w ≡ length (sl
   pub size-is : typePlace + w + length opens ≡ length whole
   size-is = omega (arith, length-append (slotsBytes slots) opens)
 
-  pub too-short : (room : ℕ) → room < typePlace + w + length opens → limited room (encoded whole) ≡ refused 8 0
+  too-short : (room : ℕ) → room < typePlace + w + length opens → limited room (encoded whole) ≡ refused 8 0
   unfolding limited
   too-short room h = rw (lt-ltb room (length whole) (omega (arith, size-is)))
 
-  pub long-enough : (room : ℕ) → typePlace + w + length opens ≤ room → limited room (encoded whole) ≡ encoded whole
+  long-enough : (room : ℕ) → typePlace + w + length opens ≤ room → limited room (encoded whole) ≡ encoded whole
   unfolding limited
   long-enough room h = rw (le-ltb room (length whole) (omega (arith, size-is)))
 
-  pub message-put : (out : List ℕ) → typePlace + w + length opens ≤ length out
+  message-put : (out : List ℕ) → typePlace + w + length opens ≤ length out
       → overwrite (overwrite (set (set out 0 (typePlace + w + length opens)) 1 0) typePlace (slotsBytes slots)) (typePlace + w) opens ≡ whole ++ drop (length whole) out
   message-put out h =
       let a : ℕ = typePlace + w + length opens in
@@ -56,3 +57,18 @@ module _ (slots : List Slot) (opens : List ℕ) (w : ℕ) (is : w ≡ length (sl
       let same : a ∷ 0 ∷ (bs ++ opens) ≡ whole = ap (λ (n : ℕ). n ∷ 0 ∷ (bs ++ opens)) counted in
       ap (λ (l : List ℕ). overwrite (overwrite l typePlace bs) (typePlace + w) opens) first ∙ ap (λ (l : List ℕ). overwrite l (typePlace + w) opens) second ∙ ap (λ (n : ℕ). overwrite (overwrite out 0 (head ++ bs)) n opens) place
       ∙ third ∙ ap (overwrite out 0) same ∙ front out whole
+
+  -- the answer and the lent bytes afterwards, where there is no room
+  pub short-answer : (out : List ℕ) → length out < typePlace + w + length opens
+      → (Refused 8 0 ≡ writtenOf (limited (length out) (encoded whole))) × (out ≡ lentAfter (limited (length out) (encoded whole)) out)
+  short-answer out h =
+      let e = too-short (length out) h in (sym (ap writtenOf e), sym (ap (λ (x : Encoded). lentAfter x out) e))
+
+  -- and where there is
+  pub whole-answer : (out last : List ℕ) → typePlace + w + length opens ≤ length out
+      → last ≡ overwrite (overwrite (set (set out 0 (typePlace + w + length opens)) 1 0) typePlace (slotsBytes slots)) (typePlace + w) opens
+      → (Length (typePlace + w + length opens) ≡ writtenOf (limited (length out) (encoded whole))) × (last ≡ lentAfter (limited (length out) (encoded whole)) out)
+  whole-answer out last h is-put =
+      let e : encoded whole ≡ limited (length out) (encoded whole) = sym (long-enough (length out) h) in
+      let put : last ≡ lentAfter (encoded whole) out = is-put ∙ message-put out h in
+      (ap Length size-is ∙ ap writtenOf e, put ∙ ap (λ (x : Encoded). lentAfter x out) e)

@@ -1,4 +1,3 @@
-pub mod Choice
 pub mod Open
-pub mod Slot
+pub mod Slots
 pub mod Writing

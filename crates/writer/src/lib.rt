@@ -1,21 +1,19 @@
 // Writing one message.
-mod form;
 mod open;
-mod selector;
-mod slot;
+mod put;
 
-use crate::form::slots_of;
 use crate::open::open_fits;
-use crate::selector::Choice;
-use crate::selector::selected;
-use crate::slot::Slot;
-use crate::slot::fits;
-use crate::slot::put_bytes;
-use crate::slot::put_slot;
-use crate::slot::width;
+use crate::put::put_bytes;
+use crate::put::put_slot;
 use protocol::Message;
 use protocol::Way;
 use protocol::Written;
+use selectors::Choice;
+use selectors::selected;
+use slots::Slot;
+use slots::fits;
+use slots::form::slots_of;
+use slots::width;
 ghost use mathlib.Core.Path.{_≡_};
 ghost use Prim.Native.Nat.{_+_, _≤_};
 ghost use lib.ListN.{length};
@@ -23,7 +21,7 @@ ghost use Rattle.protocol.specs.Decode.{longestMessage};
 ghost use Rattle.protocol.specs.Encode.{encode, encoded};
 ghost use Rattle.writer.specs.Writing.{lentAfter, limited, writtenOf};
 ghost use Rattle.protocol.specs.Overwrite.{overwrite};
-ghost use Rattle.writer.specs.Slot.{firstOutside, messageBytes, slotsBytes, typePlace};
+ghost use Rattle.writer.specs.Slots.{firstOutside, messageBytes, slotsBytes, typePlace};
 
 // The place of the first field that does not hold its value; 0 where all do.
 fn first_outside(slots: [Slot; 11]) -> u16

@@ -6,7 +6,7 @@ use mathlib.Core.List.{List, _++_}
 use lib.Dec.{ltb}
 use lib.ListN.{length, drop}
 use borrow.Author.Tests.{lt-ltb, le-ltb}
-use Rattle.message_cells.specs.Row.{rowAfter, readRow}
+use Rattle.message_rows.specs.Row.{rowAfter, readRow}
 use Rattle.capi.proofs.OpenPart.{open-short}
 use borrow.Author.Needs.{needs}
 use Rattle.capi.proofs.castanetash_read.Statement.{statement}
@@ -43,11 +43,12 @@ same-length c = search needs
 returns-2 : tie.Need-returns-2
 unfolding rowAfter readRow
 returns-2 c =
+    let cells-of = c .before .before .before .before .before .cells-of in
     let before = c .before .before .before .before .before .before .before .before .before .before .before .before .args .cells .now in
-    let row = c .before .before .before .before .before .cells-of .result in
+    let row = cells-of .result in
     let enough : ltb (length before) 20 ≡ false = le-ltb (length before) 20 (omega (arith, c .before .before .before .before .before .before .before .before .before .if1 .left)) in
     let size : length row ≡ 20 = sym (slice-aggregate-put (c .before .before .before)) in
-    let handed = rw (c .before .before .before .before .before .before .open-part .ensures, c .before .before .before .before .before .before .before .read .ensures, c .before .before .before .before .before .before .before .before .way-of .ensures) at (c .before .before .before .before .before .cells-of .ensures) in
+    let handed = rw (c .before .before .before .before .before .before .open-part .ensures, c .before .before .before .before .before .before .before .read .ensures, c .before .before .before .before .before .before .before .before .way-of .ensures) at (cells-of .ensures) in
     (rw enough, rw enough (c .before .before .put .ensures ∙ ap (λ (k : ℕ). row ++ drop k before) size ∙ ap (λ (l : List ℕ). l ++ drop 20 before) handed))
 
 pub castanetash-read-spec : {M : Type 1} → statement M

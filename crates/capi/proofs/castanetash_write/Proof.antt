@@ -1,13 +1,10 @@
-use mathlib.Core.Path.{_≡_, sym, _∙_, ap}
+use mathlib.Core.Path.{sym, _∙_}
 use lib.ListN.{length}
-use Rattle.protocol.specs.Encode.{Encoded, encode}
-use Rattle.writer.specs.Writing.{limited, lentAfter}
-use Rattle.protocol.specs.declared.Way.{Way}
-use Rattle.message_cells.specs.Row.{wayOf}
-use Rattle.message_cells.specs.FromRow.{messageFromRow}
-use Rattle.capi.specs.Written.{writtenFrom, answerNumber}
-use Rattle.message_cells.specs.declared.from_row.FromRow.{FromRow}
-use Rattle.message_cells.specs.declared.from_row.FromRow.the-variants.{Found, Nothing}
+use Rattle.protocol.specs.Encode.{encode}
+use Rattle.protocol.specs.declared.Message.{Message}
+use Rattle.writer.specs.Writing.{limited}
+use Rattle.message_rows.specs.Row.{wayOf}
+use Rattle.capi.proofs.Numbers.{none-written, found-written}
 use borrow.Author.Needs.{needs}
 use Rattle.capi.proofs.castanetash_write.Statement.{statement}
 use Rattle.capi.proofs.castanetash_write.Tie as tie
@@ -35,21 +32,21 @@ number-of-requires c κs = search needs
 
 returns : tie.Need-returns
 returns c =
-    let none : messageFromRow (c .before .before .before .before .before .before .args .cells .now) ≡ Nothing = sym (c .before .before .find .ensures) ∙ c .enum-told .given .1 in
-    (sym (ap (λ (g : FromRow). answerNumber (writtenFrom g (length (c .before .before .before .before .before .before .args .out .now)) (wayOf (c .before .before .before .before .before .before .args .way)) (c .before .before .before .before .before .before .args .«open» .now))) none), sym (ap (λ (g : FromRow). lentAfter (writtenFrom g (length (c .before .before .before .before .before .before .args .out .now)) (wayOf (c .before .before .before .before .before .before .args .way)) (c .before .before .before .before .before .before .args .«open» .now)) (c .before .before .before .before .before .before .args .out .now)) none))
+    let a = c .before .before .before .before .before .before .args in
+    none-written _ (wayOf (a .way)) (a .«open» .now) (a .out .now) (sym (c .before .before .find .ensures) ∙ c .enum-told .given .1)
 
 same-length : tie.Need-same-length
 same-length c = search needs
 
 returns-2 : tie.Need-returns-2
 returns-2 c =
-    let found : messageFromRow (c .before .before .before .before .before .before .before .before .before .before .before .before .before .args .cells .now) ≡ Found (c .before .before .before .before .before .before .before .m .given .0 .0) = sym (c .before .before .before .before .before .before .before .before .before .find .ensures) ∙ c .before .before .before .before .before .before .before .m .given .1 in
-    let way : c .before .before .before .before .before .way-of .result ≡ wayOf (c .before .before .before .before .before .before .before .before .before .before .before .before .before .args .way) = c .before .before .before .before .before .way-of .ensures in
-    let e : Encoded = limited (length (c .before .before .before .before .before .before .before .before .before .before .before .before .before .args .out .now)) (encode (c .before .before .before .before .before .way-of .result) (c .before .before .before .before .before .before .before .m .given .0 .0) (c .before .before .before .before .before .before .before .before .before .before .before .before .before .args .«open» .now)) in
-    let same : e ≡ limited (length (c .before .before .before .before .before .before .before .before .before .before .before .before .before .args .out .now)) (encode (wayOf (c .before .before .before .before .before .before .before .before .before .before .before .before .before .args .way)) (c .before .before .before .before .before .before .before .m .given .0 .0) (c .before .before .before .before .before .before .before .before .before .before .before .before .before .args .«open» .now)) = ap (λ (w : Way). limited (length (c .before .before .before .before .before .before .before .before .before .before .before .before .before .args .out .now)) (encode w (c .before .before .before .before .before .before .before .m .given .0 .0) (c .before .before .before .before .before .before .before .before .before .before .before .before .before .args .«open» .now))) way in (
-      c .number-of .ensures e (c .before .before .before .write .ensures .0) ∙ ap answerNumber same ∙ sym (ap (λ (g : FromRow). answerNumber (writtenFrom g (length (c .before .before .before .before .before .before .before .before .before .before .before .before .before .args .out .now)) (wayOf (c .before .before .before .before .before .before .before .before .before .before .before .before .before .args .way)) (c .before .before .before .before .before .before .before .before .before .before .before .before .before .args .«open» .now))) found),
-      c .before .before .before .write .ensures .1 ∙ ap (λ (d : Encoded). lentAfter d (c .before .before .before .before .before .before .before .before .before .before .before .before .before .args .out .now)) same ∙ sym (ap (λ (g : FromRow). lentAfter (writtenFrom g (length (c .before .before .before .before .before .before .before .before .before .before .before .before .before .args .out .now)) (wayOf (c .before .before .before .before .before .before .before .before .before .before .before .before .before .args .way)) (c .before .before .before .before .before .before .before .before .before .before .before .before .before .args .«open» .now)) (c .before .before .before .before .before .before .before .before .before .before .before .before .before .args .out .now)) found),
-    )
+    let told = c .before .before .before .before .before .before .before in
+    let a = told .before .before .before .before .before .before .args in
+    let m : Message = told .m .given .0 .0 in
+    let way-of = c .before .before .before .before .before .way-of in
+    let write = c .before .before .before .write in
+    let number = c .number-of .ensures (limited (length (a .out .now)) (encode (way-of .result) m (a .«open» .now))) (write .ensures .0) in
+    found-written _ m _ (wayOf (a .way)) (a .«open» .now) (a .out .now) _ _ (sym (told .before .before .find .ensures) ∙ told .m .given .1) (way-of .ensures) number (write .ensures .1)
 
 pub castanetash-write-spec : {M : Type 1} → statement M
 castanetash-write-spec =

@@ -6,9 +6,9 @@ use borrow.Author.Needs.{needs}
 use borrow.Author.Tests.{not-true, not-false}
 use lib.ListN.{length, drop, drop-of-length-le}
 use Rattle.writer.proofs.Walk.{outside-here, inside-here}
-use Rattle.writer.specs.Slot.{firstOutside, typePlace}
-use Rattle.writer.specs.declared.slot.Slot.{Slot}
-use Rattle.writer.specs.declared.slot.Slot.the-variants as Slot'
+use Rattle.writer.specs.Slots.{firstOutside, typePlace}
+use Rattle.slots.specs.declared.Slot.{Slot}
+use Rattle.slots.specs.declared.Slot.the-variants as Slot'
 use Rattle.writer.proofs.first_outside.Statement.{statement}
 use Rattle.writer.proofs.first_outside.Tie as tie
 
@@ -35,10 +35,11 @@ cast-result c = record { fits = omega (arith, c .before .before .before .before 
 
 returns : tie.Need-returns Inv-loop μ-loop
 returns c =
+    let loop = c .before .before .before .before .loop in
     let slots : List Slot = c .before .before .before .before .before .args .t1 in
-    let i : ℕ = c .before .before .before .before .loop .i in
+    let i : ℕ = loop .i in
     let inside : i < length slots = omega (arith, c .before .before .before .before .before .pre, c .before .before .before .loop-test .taken) in
-    sym (c .before .before .before .before .loop .inv .2 ∙ outside-here slots Slot'.Nothing (c .before .before .before .before .loop .at) i inside (sym (c .before .fits2 .ensures) ∙ not-true _ (c .if1 .taken)))
+    sym (loop .inv .2 ∙ outside-here slots Slot'.Nothing (loop .at) i inside (sym (c .before .fits2 .ensures) ∙ not-true _ (c .if1 .taken)))
 
 mul-width : tie.Need-mul-width Inv-loop μ-loop
 mul-width c = search needs

@@ -8,9 +8,10 @@ use lib.Seq.{take-all}
 use Rattle.protocol.proofs.Overwrite.{overwrite-nothing}
 use Rattle.writer.proofs.Walk.{Put, put-here, put-one, put-length}
 use Rattle.protocol.specs.Overwrite.{overwrite}
-use Rattle.writer.specs.Slot.{slotBytes, slotsBytes, typePlace}
-use Rattle.writer.specs.declared.slot.Slot.{Slot}
-use Rattle.writer.specs.declared.slot.Slot.the-variants as Slot'
+use Rattle.slots.specs.Slot.{slotBytes}
+use Rattle.writer.specs.Slots.{slotsBytes, typePlace}
+use Rattle.slots.specs.declared.Slot.{Slot}
+use Rattle.slots.specs.declared.Slot.the-variants as Slot'
 use Rattle.writer.proofs.put_slots.Statement.{statement}
 use Rattle.writer.proofs.put_slots.Tie as tie
 
@@ -31,8 +32,11 @@ array-copy-out-put-slot c = search needs
 
 put-slot-requires : tie.Need-put-slot-requires Inv-loop μ-loop
 put-slot-requires c κs =
-    put-here (c .before .before .before .before .before .args .out .now) (c .before .before .before .before .before .args .t2) Slot'.Nothing (c .before .before .before .loop .out) (c .before .before .before .loop .at) (c .before .before .before .loop .i) (c .before .before .before .loop .inv)
-    (c .before .before .loop-test .taken) (c .before .before .before .before .before .pre .0) (c .before .before .before .before .before .pre .2)
+    let a = c .before .before .before .before .before .args in
+    let pre = c .before .before .before .before .before .pre in
+    let loop = c .before .before .before .loop in
+    put-here (a .out .now) (a .t2) Slot'.Nothing (loop .out) (loop .at) (loop .i) (loop .inv)
+    (c .before .before .loop-test .taken) (pre .0) (pre .2)
 
 mul-width : tie.Need-mul-width Inv-loop μ-loop
 mul-width c = search needs
@@ -44,7 +48,9 @@ width-requires : tie.Need-width-requires Inv-loop μ-loop
 width-requires c κs = search needs
 
 add-at : tie.Need-add-at Inv-loop μ-loop
-add-at c = record { fits = omega (arith, c .width .ensures .1, c .before .before .before .before .before .before .before .before .loop .inv .narrow, c .before .before .before .before .before .before .before .before .loop .inv .few) }
+add-at c =
+    let loop = c .before .before .before .before .before .before .before .before .loop in
+    record { fits = omega (arith, c .width .ensures .1, loop .inv .narrow, loop .inv .few) }
 
 add-i : tie.Need-add-i Inv-loop μ-loop
 add-i c = record { fits = omega (arith, c .before .before .before .before .before .before .before .loop-test .taken) }
@@ -54,21 +60,28 @@ loop-less c = omega (arith, c .before .before .before .before .before .before .b
 
 loop-again : tie.Need-loop-again Inv-loop μ-loop
 loop-again c =
-    let slots : List Slot = c .before .before .before .before .before .before .before .before .before .before .args .t2 in
-    let i : ℕ = c .before .before .before .before .before .before .before .before .loop .i in
+    let a = c .before .before .before .before .before .before .before .before .before .before .args in
+    let pre = c .before .before .before .before .before .before .before .before .before .before .pre in
+    let loop = c .before .before .before .before .before .before .before .before .loop in
+    let put-slot = c .before .before .before .before .put-slot in
+    let slots : List Slot = a .t2 in
+    let i : ℕ = loop .i in
     let size : c .width .result ≡ length (slotBytes (getD slots i Slot'.Nothing)) = c .width .ensures .0 in
     rw size
-    (put-one (c .before .before .before .before .before .before .before .before .before .before .args .out .now) slots Slot'.Nothing (c .before .before .before .before .before .before .before .before .loop .out) (c .before .before .before .before .before .before .before .before .loop .at) i (c .before .before .before .before .put-slot .last .0) (c .before .before .before .before .before .before .before .before .loop .inv)
-    (c .before .before .before .before .before .before .before .loop-test .taken) (c .before .before .before .before .before .before .before .before .before .before .pre .0) (omega (arith, size, c .width .ensures .1)) (c .before .before .before .before .before .before .before .before .before .before .pre .2) (c .before .before .before .before .put-slot .ensures))
+    (put-one (a .out .now) slots Slot'.Nothing (loop .out) (loop .at) i (put-slot .last .0) (loop .inv)
+    (c .before .before .before .before .before .before .before .loop-test .taken) (pre .0) (omega (arith, size, c .width .ensures .1)) (pre .2) (put-slot .ensures))
 
 same-length : tie.Need-same-length Inv-loop μ-loop
-same-length c = put-length (c .before .before .before .args .out .now) (c .before .before .before .args .t2) (c .before .loop .out) (c .before .loop .at) (c .before .loop .i) (c .before .loop .inv) (c .before .before .before .pre .2)
+same-length c =
+    let a = c .before .before .before .args in
+    put-length (a .out .now) (a .t2) (c .before .loop .out) (c .before .loop .at) (c .before .loop .i) (c .before .loop .inv) (c .before .before .before .pre .2)
 
 returns : tie.Need-returns Inv-loop μ-loop
 returns c =
-    let slots : List Slot = c .before .before .before .args .t2 in
+    let a = c .before .before .before .args in
+    let slots : List Slot = a .t2 in
     let i : ℕ = c .before .loop .i in
-    c .before .loop .inv .done ∙ ap (λ (l : List Slot). overwrite (c .before .before .before .args .out .now) typePlace (slotsBytes l)) (take-all i slots (omega (arith, c .before .before .before .pre .0, c .loop-test .left)))
+    c .before .loop .inv .done ∙ ap (λ (l : List Slot). overwrite (a .out .now) typePlace (slotsBytes l)) (take-all i slots (omega (arith, c .before .before .before .pre .0, c .loop-test .left)))
 
 pub put-slots-spec : {M : Type 1} → statement M
 put-slots-spec =

@@ -5,9 +5,9 @@ use mathlib.Core.List.{List}
 use lib.ListN.{length, drop, drop-of-length-le}
 use borrow.Author.Needs.{needs}
 use Rattle.writer.proofs.Walk.{width-here}
-use Rattle.writer.specs.Slot.{slotsBytes}
-use Rattle.writer.specs.declared.slot.Slot.{Slot}
-use Rattle.writer.specs.declared.slot.Slot.the-variants as Slot'
+use Rattle.writer.specs.Slots.{slotsBytes}
+use Rattle.slots.specs.declared.Slot.{Slot}
+use Rattle.slots.specs.declared.Slot.the-variants as Slot'
 use Rattle.writer.proofs.widths.Statement.{statement}
 use Rattle.writer.proofs.widths.Tie as tie
 

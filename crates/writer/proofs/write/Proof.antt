@@ -4,7 +4,7 @@ use lib.ListN.{length}
 use Rattle.protocol.proofs.RoundTrip.{written-short}
 use Rattle.protocol.specs.Encode.{Encoded, refused}
 use Rattle.writer.specs.Writing.{limited, writtenOf, lentAfter}
-use Rattle.writer.proofs.Choices.{by-choice, chosen}
+use Rattle.selectors.proofs.Choices.{by-choice, chosen}
 use Rattle.writer.proofs.Encoding.{wrong-size, a-field-outside, all-inside, refused-answer}
 use borrow.Author.Needs.{needs}
 use Rattle.writer.proofs.write.Statement.{statement}
@@ -24,8 +24,9 @@ open-fits-requires c κs = search needs
 
 returns : tie.Need-returns
 returns c =
-    refused-answer _ 6 0 (length (c .before .before .before .before .before .before .before .args .out .now)) (c .before .before .before .before .before .before .before .args .out .now)
-    (chosen (c .before .before .before .before .before .before .before .args .way) (c .before .before .before .before .before .before .before .args .m) (c .before .before .before .before .before .before .before .args .«open» .now) _ (c .before .before .before .before .selected .ensures) (c .before .before .enum-told .given .1) ∙ wrong-size (c .before .before .before .before .before .before .before .args .m) (c .before .before .before .before .before .before .before .args .«open» .now) (sym (c .before .open-fits .ensures) ∙ not-true _ (c .if1 .taken)))
+    let a = c .before .before .before .before .before .before .before .args in
+    refused-answer _ 6 0 (length (a .out .now)) (a .out .now)
+    (chosen (a .way) (a .m) (a .«open» .now) _ (c .before .before .before .before .selected .ensures) (c .before .before .enum-told .given .1) ∙ wrong-size (a .m) (a .«open» .now) (sym (c .before .open-fits .ensures) ∙ not-true _ (c .if1 .taken)))
 
 slots-of-requires : tie.Need-slots-of-requires
 slots-of-requires c κs = search needs
@@ -35,29 +36,38 @@ first-outside-requires c κs = search needs
 
 returns-2 : tie.Need-returns-2
 returns-2 c =
-    refused-answer _ 7 (c .before .first-outside .result) (length (c .before .before .before .before .before .before .before .before .before .before .args .out .now)) (c .before .before .before .before .before .before .before .before .before .before .args .out .now)
-    (chosen (c .before .before .before .before .before .before .before .before .before .before .args .way) (c .before .before .before .before .before .before .before .before .before .before .args .m) (c .before .before .before .before .before .before .before .before .before .before .args .«open» .now) _ (c .before .before .before .before .before .before .before .selected .ensures) (c .before .before .before .before .before .enum-told .given .1)
-    ∙ a-field-outside (c .before .before .before .before .before .before .before .before .before .before .args .m) (c .before .before .before .before .before .before .before .before .before .before .args .«open» .now) (c .before .before .slots-of .result) (c .before .before .slots-of .ensures) (sym (c .before .before .before .before .open-fits .ensures) ∙ not-false _ (c .before .before .before .if1 .left)) (λ e. c .if2 .taken (c .before .first-outside .ensures ∙ e))
+    let a = c .before .before .before .before .before .before .before .before .before .before .args in
+    refused-answer _ 7 (c .before .first-outside .result) (length (a .out .now)) (a .out .now)
+    (chosen (a .way) (a .m) (a .«open» .now) _ (c .before .before .before .before .before .before .before .selected .ensures) (c .before .before .before .before .before .enum-told .given .1)
+    ∙ a-field-outside (a .m) (a .«open» .now) (c .before .before .slots-of .result) (c .before .before .slots-of .ensures) (sym (c .before .before .before .before .open-fits .ensures) ∙ not-false _ (c .before .before .before .if1 .left)) (λ e. c .if2 .taken (c .before .first-outside .ensures ∙ e))
     ∙ ap (refused 7) (sym (c .before .first-outside .ensures)))
 
 put-message-requires : tie.Need-put-message-requires
-put-message-requires c κs = (
-  c .before .before .before .slots-of .ensures .eleven,
-  sym (c .before .before .first-outside .ensures) ∙ c .before .if2 .left,
-  written-short (c .before .before .before .before .before .before .before .before .before .before .before .args .m) (c .before .before .before .before .before .before .before .before .before .before .before .args .«open» .now) _ (all-inside (c .before .before .before .before .before .before .before .before .before .before .before .args .m) (c .before .before .before .before .before .before .before .before .before .before .before .args .«open» .now) (c .before .before .before .slots-of .result) (c .before .before .before .slots-of .ensures) (sym (c .before .before .before .before .before .open-fits .ensures) ∙ not-false _ (c .before .before .before .before .if1 .left)) (sym (c .before .before .first-outside .ensures) ∙ c .before .if2 .left)),
-)
+put-message-requires c κs =
+    let a = c .before .before .before .before .before .before .before .before .before .before .before .args in
+    let slots-of = c .before .before .before .slots-of in
+    let open-right = sym (c .before .before .before .before .before .open-fits .ensures) ∙ not-false _ (c .before .before .before .before .if1 .left) in
+    let none-outside = sym (c .before .before .first-outside .ensures) ∙ c .before .if2 .left in
+    (slots-of .ensures .eleven, none-outside, written-short (a .m) (a .«open» .now) _ (all-inside (a .m) (a .«open» .now) (slots-of .result) (slots-of .ensures) open-right none-outside))
 
 returns-3 : tie.Need-returns-3
 returns-3 c =
-    refused-answer _ _ _ (length (c .before .before .before .before .before .before .args .out .now)) (c .before .before .before .before .before .before .args .out .now) (by-choice (c .before .before .before .before .before .before .args .way) (c .before .before .before .before .before .before .args .m) (c .before .before .before .before .before .before .args .«open» .now) _ _ (c .before .before .before .selected .ensures) (c .before .number .given .1))
+    let a = c .before .before .before .before .before .before .args in
+    refused-answer _ _ _ (length (a .out .now)) (a .out .now) (by-choice (a .way) (a .m) (a .«open» .now) _ _ (c .before .before .before .selected .ensures) (c .before .number .given .1))
 
 same-length : tie.Need-same-length
 same-length c = search needs
 
 returns-4 : tie.Need-returns-4
 returns-4 c =
-    let e = chosen (c .before .before .before .before .before .before .before .before .before .before .before .before .before .before .args .way) (c .before .before .before .before .before .before .before .before .before .before .before .before .before .before .args .m) (c .before .before .before .before .before .before .before .before .before .before .before .before .before .before .args .«open» .now) _ (c .before .before .before .before .before .before .before .before .before .before .before .selected .ensures) (c .before .before .before .before .before .before .before .before .before .enum-told .given .1) ∙ all-inside (c .before .before .before .before .before .before .before .before .before .before .before .before .before .before .args .m) (c .before .before .before .before .before .before .before .before .before .before .before .before .before .before .args .«open» .now) (c .before .before .before .before .before .before .slots-of .result) (c .before .before .before .before .before .before .slots-of .ensures) (sym (c .before .before .before .before .before .before .before .before .open-fits .ensures) ∙ not-false _ (c .before .before .before .before .before .before .before .if1 .left)) (sym (c .before .before .before .before .before .first-outside .ensures) ∙ c .before .before .before .before .if2 .left) in
-    (c .before .before .put-message .ensures .0 ∙ sym (ap (λ (x : Encoded). writtenOf (limited (length (c .before .before .before .before .before .before .before .before .before .before .before .before .before .before .args .out .now)) x)) e), c .before .before .put-message .ensures .1 ∙ sym (ap (λ (x : Encoded). lentAfter (limited (length (c .before .before .before .before .before .before .before .before .before .before .before .before .before .before .args .out .now)) x) (c .before .before .before .before .before .before .before .before .before .before .before .before .before .before .args .out .now)) e))
+    let a = c .before .before .before .before .before .before .before .before .before .before .before .before .before .before .args in
+    let slots-of = c .before .before .before .before .before .before .slots-of in
+    let told = c .before .before .before .before .before .before .before .before .before in
+    let own-form = chosen (a .way) (a .m) (a .«open» .now) _ (told .before .before .selected .ensures) (told .enum-told .given .1) in
+    let open-right = sym (c .before .before .before .before .before .before .before .before .open-fits .ensures) ∙ not-false _ (c .before .before .before .before .before .before .before .if1 .left) in
+    let none-outside = sym (c .before .before .before .before .before .first-outside .ensures) ∙ c .before .before .before .before .if2 .left in
+    let e = own-form ∙ all-inside (a .m) (a .«open» .now) (slots-of .result) (slots-of .ensures) open-right none-outside in
+    (c .before .before .put-message .ensures .0 ∙ sym (ap (λ (x : Encoded). writtenOf (limited (length (a .out .now)) x)) e), c .before .before .put-message .ensures .1 ∙ sym (ap (λ (x : Encoded). lentAfter (limited (length (a .out .now)) x) (a .out .now)) e))
 
 pub write-spec : {M : Type 1} → statement M
 write-spec =

@@ -9,7 +9,8 @@ use Rattle.capi.proofs.fill.fill.Tie as tie
 
 returns : tie.Need-returns
 returns c =
-    let few : ltb (length (c .before .before .before .args .cells .now)) (length (c .before .before .before .args .row .now)) ≡ true = lt-ltb (length (c .before .before .before .args .cells .now)) (length (c .before .before .before .args .row .now)) (c .if1 .taken) in
+    let a = c .before .before .before .args in
+    let few : ltb (length (a .cells .now)) (length (a .row .now)) ≡ true = lt-ltb (length (a .cells .now)) (length (a .row .now)) (c .if1 .taken) in
     (rw few, rw few)
 
 put-requires : tie.Need-put-requires
@@ -20,7 +21,8 @@ same-length c = search needs
 
 returns-2 : tie.Need-returns-2
 returns-2 c =
-    let enough : ltb (length (c .before .before .before .before .before .before .before .args .cells .now)) (length (c .before .before .before .before .before .before .before .args .row .now)) ≡ false = le-ltb (length (c .before .before .before .before .before .before .before .args .cells .now)) (length (c .before .before .before .before .before .before .before .args .row .now)) (c .before .before .before .before .if1 .left) in
+    let a = c .before .before .before .before .before .before .before .args in
+    let enough : ltb (length (a .cells .now)) (length (a .row .now)) ≡ false = le-ltb (length (a .cells .now)) (length (a .row .now)) (c .before .before .before .before .if1 .left) in
     (rw enough, rw enough (c .before .before .put .ensures))
 
 pub fill-spec : {M : Type 1} → statement M

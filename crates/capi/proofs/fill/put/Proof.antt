@@ -45,7 +45,9 @@ mul-cells-2 : tie.Need-mul-cells-2 Inv-loop μ-loop
 mul-cells-2 c = search needs
 
 slice-write-cells : tie.Need-slice-write-cells Inv-loop μ-loop
-slice-write-cells c = omega (arith, kept (c .before .before .before .args .cells .now) (c .before .before .before .args .row .now) (c .before .before .loop .i) (c .before .before .loop .cells) (c .before .before .loop .inv) (c .before .before .before .pre))
+slice-write-cells c =
+    let a = c .before .before .before .args in
+    omega (arith, kept (a .cells .now) (a .row .now) (c .before .before .loop .i) (c .before .before .loop .cells) (c .before .before .loop .inv) (c .before .before .before .pre))
 
 add-i : tie.Need-add-i Inv-loop μ-loop
 add-i c = search needs
@@ -54,7 +56,10 @@ loop-less : tie.Need-loop-less Inv-loop μ-loop
 loop-less c = search needs
 
 loop-again : tie.Need-loop-again Inv-loop μ-loop
-loop-again c = rw add-one (turn (c .before .before .before .args .cells .now) (c .before .before .before .args .row .now) (c .before .before .loop .i) (c .before .before .loop .cells) (c .before .before .loop .inv) (c .before .before .before .pre) (c .before .loop-test .taken))
+loop-again c =
+    let loop = c .before .before .loop in
+    let a = c .before .before .before .args in
+    rw add-one (turn (a .cells .now) (a .row .now) (loop .i) (loop .cells) (loop .inv) (c .before .before .before .pre) (c .before .loop-test .taken))
 
 same-length : tie.Need-same-length Inv-loop μ-loop
 same-length c = kept (c .before .before .args .cells .now) (c .before .before .args .row .now) (c .before .loop .i) (c .before .loop .cells) (c .before .loop .inv) (c .before .before .pre)

@@ -1,8 +1,6 @@
-use Prim.Native.Nat.{ℕ}
 use mathlib.Core.Path.{_∙_, ap}
-use mathlib.Core.List.{List}
 use Rattle.table_cells.specs.Rows.{formatRow}
-use Rattle.capi.specs.Filled.{filledBy, filledWith}
+use Rattle.capi.proofs.Fills.{filled-as}
 use borrow.Author.Needs.{needs}
 use Rattle.capi.proofs.port_table.castanetash_format.Statement.{statement}
 use Rattle.capi.proofs.port_table.castanetash_format.Tie as tie
@@ -24,7 +22,8 @@ same-length c = search needs
 
 returns : tie.Need-returns
 returns c =
-    (c .before .before .fill .ensures .0 ∙ ap (λ (row : List ℕ). filledBy row (c .before .before .before .before .before .before .before .before .before .args .cells .now)) (c .before .before .before .before .before .format-row .ensures ∙ ap formatRow (c .before .before .before .before .before .before .format .ensures)), c .before .before .fill .ensures .1 ∙ ap (λ (row : List ℕ). filledWith row (c .before .before .before .before .before .before .before .before .before .args .cells .now)) (c .before .before .before .before .before .format-row .ensures ∙ ap formatRow (c .before .before .before .before .before .before .format .ensures)))
+    let answered = c .before .before .before .before .before in
+    filled-as (answered .before .before .before .before .args .cells .now) (answered .format-row .ensures ∙ ap formatRow (answered .before .format .ensures)) (c .before .before .fill .ensures)
 
 pub castanetash-format-spec : {M : Type 1} → statement M
 castanetash-format-spec =

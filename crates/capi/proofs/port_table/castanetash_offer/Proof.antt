@@ -21,7 +21,12 @@ same-length c = search needs
 
 returns : tie.Need-returns
 returns c =
-    (c .outcome-number .ensures ∙ ap outcomeNumber (c .before .before .before .offer .ensures .0 ∙ ap (λ (w : Way). outcome (offerByCells (c .before .before .before .before .before .before .before .before .args .table .now) (record { way = w; bytes = c .before .before .before .before .before .before .before .before .args .message .now }))) (c .before .before .before .before .way-of .ensures)), c .before .before .before .offer .ensures .1 ∙ ap (λ (w : Way). cellsAfter (c .before .before .before .before .before .before .before .before .args .table .now) (record { way = w; bytes = c .before .before .before .before .before .before .before .before .args .message .now })) (c .before .before .before .before .way-of .ensures))
+    let a = c .before .before .before .before .before .before .before .before .args in
+    let way-of = c .before .before .before .before .way-of in
+    let offer = c .before .before .before .offer in
+    let answer = offer .ensures .0 ∙ ap (λ (w : Way). outcome (offerByCells (a .table .now) (record { way = w; bytes = a .message .now }))) (way-of .ensures) in
+    let cells = offer .ensures .1 ∙ ap (λ (w : Way). cellsAfter (a .table .now) (record { way = w; bytes = a .message .now })) (way-of .ensures) in
+    (c .outcome-number .ensures ∙ ap outcomeNumber answer, cells)
 
 pub castanetash-offer-spec : {M : Type 1} → statement M
 castanetash-offer-spec =

@@ -1,8 +1,6 @@
-use Prim.Native.Nat.{ℕ}
 use mathlib.Core.Path.{_∙_, ap}
-use mathlib.Core.List.{List}
 use Rattle.table_cells.specs.Rows.{portRow}
-use Rattle.capi.specs.Filled.{filledBy, filledWith}
+use Rattle.capi.proofs.Fills.{filled-as}
 use borrow.Author.Needs.{needs}
 use Rattle.capi.proofs.port_table.castanetash_port.Statement.{statement}
 use Rattle.capi.proofs.port_table.castanetash_port.Tie as tie
@@ -24,7 +22,8 @@ same-length c = search needs
 
 returns : tie.Need-returns
 returns c =
-    (c .before .before .fill .ensures .0 ∙ ap (λ (row : List ℕ). filledBy row (c .before .before .before .before .before .before .before .before .before .args .cells .now)) (c .before .before .before .before .before .port-row .ensures ∙ ap portRow (c .before .before .before .before .before .before .port .ensures)), c .before .before .fill .ensures .1 ∙ ap (λ (row : List ℕ). filledWith row (c .before .before .before .before .before .before .before .before .before .args .cells .now)) (c .before .before .before .before .before .port-row .ensures ∙ ap portRow (c .before .before .before .before .before .before .port .ensures)))
+    let answered = c .before .before .before .before .before in
+    filled-as (answered .before .before .before .before .args .cells .now) (answered .port-row .ensures ∙ ap portRow (answered .before .port .ensures)) (c .before .before .fill .ensures)
 
 pub castanetash-port-spec : {M : Type 1} → statement M
 castanetash-port-spec =
