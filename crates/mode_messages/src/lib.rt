@@ -1,11 +1,11 @@
 // What a mode of a port is: 0x44.
+use hub_messages::refusal::outside;
+use hub_messages::refusal::wrong_size;
+use hub_messages::rule::between;
 use numbers::f32_at;
 use numbers::finite_at;
 use numbers::u16_at;
 use numbers::u48_at;
-use hub_messages::refusal::outside;
-use hub_messages::refusal::wrong_size;
-use hub_messages::rule::between;
 use protocol::Message;
 use protocol::Reading;
 ghost use mathlib.Core.Path.{_≡_};

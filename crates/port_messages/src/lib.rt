@@ -1,10 +1,10 @@
 // Messages on a port: 0x04, 0x21, 0x22, 0x41, 0x43, 0x45, 0x47, 0x61.
-use numbers::i32_of;
-use numbers::u16_at;
-use numbers::u32_at;
 use hub_messages::refusal::outside;
 use hub_messages::refusal::wrong_size;
 use hub_messages::rule::is_information_type;
+use numbers::i32_of;
+use numbers::u16_at;
+use numbers::u32_at;
 use protocol::Combinations;
 use protocol::Message;
 use protocol::Reading;

@@ -1,14 +1,14 @@
 // Hub properties: 0x01.
-use numbers::i8_of;
-use numbers::i32_of;
-use numbers::u16_at;
-use numbers::u32_at;
-use numbers::u48_at;
 use hub_messages::property::carries;
 use hub_messages::property::greatest;
 use hub_messages::property::outside_selector;
 use hub_messages::refusal::outside;
 use hub_messages::refusal::wrong_size;
+use numbers::i8_of;
+use numbers::i32_of;
+use numbers::u16_at;
+use numbers::u32_at;
+use numbers::u48_at;
 use protocol::Message;
 use protocol::Reading;
 use protocol::Way;

@@ -52,43 +52,63 @@ outside-requires c κs = search needs
 
 returns-2 : tie.Need-returns-2
 unfolding portModeInformation decodeType
-returns-2 c = simp (c .mode-text .ensures, le-ltb _ _ (c .before .before .before .if1 .left), c .before .match .keys1)
+returns-2 c =
+    let c1 = c .before .before .before in
+    simp (c .mode-text .ensures, le-ltb _ _ (c1 .if1 .left), c .before .match .keys1)
 
 returns-3 : tie.Need-returns-3
 unfolding portModeInformation decodeType
-returns-3 c = simp (c .mode-text2 .ensures, le-ltb _ _ (c .before .before .before .if1 .left), c .before .match .keys2)
+returns-3 c =
+    let c1 = c .before .before .before in
+    simp (c .mode-text2 .ensures, le-ltb _ _ (c1 .if1 .left), c .before .match .keys2)
 
 returns-4 : tie.Need-returns-4
 unfolding portModeInformation decodeType
-returns-4 c = simp (c .mode-range .ensures, le-ltb _ _ (c .before .before .before .if1 .left), c .before .match .keys3)
+returns-4 c =
+    let c1 = c .before .before .before in
+    simp (c .mode-range .ensures, le-ltb _ _ (c1 .if1 .left), c .before .match .keys3)
 
 returns-5 : tie.Need-returns-5
 unfolding portModeInformation decodeType
-returns-5 c = simp (c .mode-range2 .ensures, le-ltb _ _ (c .before .before .before .if1 .left), c .before .match .keys4)
+returns-5 c =
+    let c1 = c .before .before .before in
+    simp (c .mode-range2 .ensures, le-ltb _ _ (c1 .if1 .left), c .before .match .keys4)
 
 returns-6 : tie.Need-returns-6
 unfolding portModeInformation decodeType
-returns-6 c = simp (c .mode-range3 .ensures, le-ltb _ _ (c .before .before .before .if1 .left), c .before .match .keys5)
+returns-6 c =
+    let c1 = c .before .before .before in
+    simp (c .mode-range3 .ensures, le-ltb _ _ (c1 .if1 .left), c .before .match .keys5)
 
 returns-7 : tie.Need-returns-7
 unfolding portModeInformation decodeType
-returns-7 c = simp (c .mode-mapping .ensures, le-ltb _ _ (c .before .before .before .if1 .left), c .before .match .keys6)
+returns-7 c =
+    let c1 = c .before .before .before in
+    simp (c .mode-mapping .ensures, le-ltb _ _ (c1 .if1 .left), c .before .match .keys6)
 
 returns-8 : tie.Need-returns-8
 unfolding portModeInformation decodeType
-returns-8 c = simp (c .mode-bias .ensures, le-ltb _ _ (c .before .before .before .if1 .left), c .before .match .keys7)
+returns-8 c =
+    let c1 = c .before .before .before in
+    simp (c .mode-bias .ensures, le-ltb _ _ (c1 .if1 .left), c .before .match .keys7)
 
 returns-9 : tie.Need-returns-9
 unfolding portModeInformation decodeType
-returns-9 c = simp (c .mode-capabilities .ensures, le-ltb _ _ (c .before .before .before .if1 .left), c .before .match .keys8)
+returns-9 c =
+    let c1 = c .before .before .before in
+    simp (c .mode-capabilities .ensures, le-ltb _ _ (c1 .if1 .left), c .before .match .keys8)
 
 returns-10 : tie.Need-returns-10
 unfolding portModeInformation decodeType
-returns-10 c = simp (c .value-format .ensures, le-ltb _ _ (c .before .before .before .if1 .left), c .before .match .keys9)
+returns-10 c =
+    let c1 = c .before .before .before in
+    simp (c .value-format .ensures, le-ltb _ _ (c1 .if1 .left), c .before .match .keys9)
 
 returns-11 : tie.Need-returns-11
 unfolding portModeInformation decodeType
-returns-11 c = simp (c .outside .ensures, le-ltb _ _ (c .before .before .before .if1 .left), ne-eqb _ _ (c .before .match .rest .0 .0 .0 .0 .0 .0 .0 .0 .1), ne-eqb _ _ (c .before .match .rest .0 .0 .0 .0 .0 .0 .0 .1), ne-eqb _ _ (c .before .match .rest .0 .0 .0 .0 .0 .0 .1), ne-eqb _ _ (c .before .match .rest .0 .0 .0 .0 .0 .1), ne-eqb _ _ (c .before .match .rest .0 .0 .0 .0 .1), ne-eqb _ _ (c .before .match .rest .0 .0 .0 .1), ne-eqb _ _ (c .before .match .rest .0 .0 .1), ne-eqb _ _ (c .before .match .rest .0 .1), ne-eqb _ _ (c .before .match .rest .1))
+returns-11 c =
+    let c1 = c .before .before .before in
+    simp (c .outside .ensures, le-ltb _ _ (c1 .if1 .left), ne-eqb _ _ (c .before .match .rest .0 .0 .0 .0 .0 .0 .0 .0 .1), ne-eqb _ _ (c .before .match .rest .0 .0 .0 .0 .0 .0 .0 .1), ne-eqb _ _ (c .before .match .rest .0 .0 .0 .0 .0 .0 .1), ne-eqb _ _ (c .before .match .rest .0 .0 .0 .0 .0 .1), ne-eqb _ _ (c .before .match .rest .0 .0 .0 .0 .1), ne-eqb _ _ (c .before .match .rest .0 .0 .0 .1), ne-eqb _ _ (c .before .match .rest .0 .0 .1), ne-eqb _ _ (c .before .match .rest .0 .1), ne-eqb _ _ (c .before .match .rest .1))
 
 pub port-mode-information-spec : {M : Type 1} → statement M
 port-mode-information-spec =

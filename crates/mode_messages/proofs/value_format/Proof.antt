@@ -1,8 +1,8 @@
-use mathlib.Core.Path.{sym, _∙_}
+use mathlib.Core.Path.{_≡_, sym, _∙_}
 use borrow.Author.Tests.{eq-eqb, ne-eqb, le-leb, lt-leb, not-true, not-false}
 use Rattle.protocol.specs.Number.{littleEndian}
-use Rattle.protocol.specs.Form.{layout}
-use Rattle.protocol.specs.Decode.{decodeForm}
+use Rattle.protocol.specs.Form.{layout, valueFormat}
+use Rattle.protocol.specs.Decode.{decodeForm, refused}
 use borrow.Author.Needs.{needs}
 use Rattle.mode_messages.proofs.value_format.Statement.{statement}
 use Rattle.mode_messages.proofs.value_format.Tie as tie
@@ -22,7 +22,9 @@ outside-requires c κs = search needs
 
 returns-2 : tie.Need-returns-2
 unfolding decodeForm layout littleEndian
-returns-2 c = simp (c .outside .ensures, lt-leb _ _ (c .before .if2 .taken), eq-eqb _ _ (c .before .before .before .if1 .left))
+returns-2 c =
+    let c1 = c .before .before .before in
+    simp (c .outside .ensures, lt-leb _ _ (c .before .if2 .taken), eq-eqb _ _ (c1 .if1 .left))
 
 shared-slice-read-datasets : tie.Need-shared-slice-read-datasets
 shared-slice-read-datasets c = search needs
@@ -35,7 +37,11 @@ outside-requires-2 c κs = search needs
 
 returns-3 : tie.Need-returns-3
 unfolding decodeForm layout littleEndian
-returns-3 c = simp (c .outside2 .ensures, sym (c .before .before .between .ensures) ∙ not-true _ (c .before .if3 .taken), le-leb _ _ (c .before .before .before .before .if2 .left), eq-eqb _ _ (c .before .before .before .before .before .before .if1 .left))
+returns-3 c =
+    let c1 = c .before .before in
+    let c2 = c1 .before .before in
+    let c3 = c2 .before .before in
+    simp (c .outside2 .ensures, sym (c1 .between .ensures) ∙ not-true _ (c .before .if3 .taken), le-leb _ _ (c2 .if2 .left), eq-eqb _ _ (c3 .if1 .left))
 
 shared-slice-read-kind : tie.Need-shared-slice-read-kind
 shared-slice-read-kind c = search needs
@@ -45,7 +51,13 @@ outside-requires-3 c κs = search needs
 
 returns-4 : tie.Need-returns-4
 unfolding decodeForm layout littleEndian
-returns-4 c = simp (c .outside3 .ensures, lt-leb _ _ (c .before .if4 .taken), sym (c .before .before .before .before .between .ensures) ∙ not-false _ (c .before .before .before .if3 .left), le-leb _ _ (c .before .before .before .before .before .before .if2 .left), eq-eqb _ _ (c .before .before .before .before .before .before .before .before .if1 .left))
+returns-4 c =
+    let c1 = c .before .before .before in
+    let c2 = c1 .before in
+    let c3 = c2 .before .before in
+    let c4 = c3 .before .before in
+    let e : decodeForm valueFormat (c4 .before .before .args .s .now) ≡ refused 7 7 = simp (lt-leb _ _ (c .before .if4 .taken), sym (c2 .between .ensures) ∙ not-false _ (c1 .if3 .left), le-leb _ _ (c3 .if2 .left), eq-eqb _ _ (c4 .if1 .left)) in
+    c .outside3 .ensures ∙ sym e
 
 shared-slice-read-t8 : tie.Need-shared-slice-read-t8
 shared-slice-read-t8 c = search needs
@@ -58,7 +70,14 @@ shared-slice-read-t16 c = search needs
 
 returns-5 : tie.Need-returns-5
 unfolding decodeForm layout littleEndian
-returns-5 c = simp (le-leb _ _ (c .before .before .before .if4 .left), sym (c .before .before .before .before .before .before .between .ensures) ∙ not-false _ (c .before .before .before .before .before .if3 .left), le-leb _ _ (c .before .before .before .before .before .before .before .before .if2 .left), eq-eqb _ _ (c .before .before .before .before .before .before .before .before .before .before .if1 .left), c .before .before .before .before .before .before .before .before .before .before .before .before .pre)
+returns-5 c =
+    let c1 = c .before .before .before in
+    let c2 = c1 .before .before in
+    let c3 = c2 .before in
+    let c4 = c3 .before .before in
+    let c5 = c4 .before .before in
+    let c6 = c5 .before .before in
+    simp (le-leb _ _ (c1 .if4 .left), sym (c3 .between .ensures) ∙ not-false _ (c2 .if3 .left), le-leb _ _ (c4 .if2 .left), eq-eqb _ _ (c5 .if1 .left), c6 .pre)
 
 pub value-format-spec : {M : Type 1} → statement M
 value-format-spec =
