@@ -9,8 +9,8 @@ use protocol::Combinations;
 use protocol::Message;
 use protocol::Reading;
 ghost use mathlib.Core.Path.{_≡_};
-ghost use Prim.Native.Nat.{_+_, _*_, _≤_};
-ghost use lib.ListN.{getD, length};
+ghost use Prim.Native.Nat.{_≤_};
+ghost use lib.ListN.{getD};
 ghost use Rattle.protocol.specs.Form as Form;
 ghost use Rattle.protocol.specs.Types.{hubAttachedIo, portInformation, virtualPortSetup};
 ghost use Rattle.protocol.specs.Decode.{decodeForm, decodeType};
@@ -171,7 +171,7 @@ fn port_modes(s: &[u8]) -> Reading
 
 // The entry at index `i` of `count` mode combinations.
 fn entry(s: &[u8], count: usize, i: usize) -> u16
-    requires { ⌜ (5 + 2 * count ≤ length (now s)) × (count ≤ 8) ⌝ }
+    requires { ⌜ count ≤ 8 ⌝ }
     ensures { λ r. ⌜ r ≡ Form.word (now (s .entry)) 5 count i ⌝ }
 {
     if i < count { u16_at(s, 5 + 2 * i) } else { 0 }

@@ -62,11 +62,15 @@ returns-4 c = c .hub-attached-io .ensures ∙ sym (typed Up _ 4 (c .before .matc
 
 returns-5 : tie.Need-returns-5
 unfolding types
-returns-5 c = c .generic-error .ensures ∙ sym (typed Up _ 5 (c .before .match .keys5) ∙ long-enough _ _ (c .before .before .before .before .pre))
+returns-5 c =
+    let c1 = c .before .before .before .before in
+    c .generic-error .ensures ∙ sym (typed Up _ 5 (c .before .match .keys5) ∙ long-enough _ _ (c1 .pre))
 
 returns-6 : tie.Need-returns-6
 unfolding types
-returns-6 c = c .lock-status .ensures ∙ sym (typed Up _ 19 (c .before .match .keys6) ∙ long-enough _ _ (c .before .before .before .before .pre))
+returns-6 c =
+    let c1 = c .before .before .before .before in
+    c .lock-status .ensures ∙ sym (typed Up _ 19 (c .before .match .keys6) ∙ long-enough _ _ (c1 .pre))
 
 returns-7 : tie.Need-returns-7
 unfolding types
@@ -78,11 +82,15 @@ returns-8 c = c .port-mode-information .ensures ∙ sym (typed Up _ 68 (c .befor
 
 returns-9 : tie.Need-returns-9
 unfolding types
-returns-9 c = c .port-value .ensures ∙ sym (typed Up _ 69 (c .before .match .keys9) ∙ long-enough _ _ (c .before .before .before .before .pre))
+returns-9 c =
+    let c1 = c .before .before .before .before in
+    c .port-value .ensures ∙ sym (typed Up _ 69 (c .before .match .keys9) ∙ long-enough _ _ (c1 .pre))
 
 returns-10 : tie.Need-returns-10
 unfolding types
-returns-10 c = c .input-format .ensures ∙ sym (typed Up _ 71 (c .before .match .keys10) ∙ long-enough _ _ (c .before .before .before .before .pre))
+returns-10 c =
+    let c1 = c .before .before .before .before in
+    c .input-format .ensures ∙ sym (typed Up _ 71 (c .before .match .keys10) ∙ long-enough _ _ (c1 .pre))
 
 returns-11 : tie.Need-returns-11
 unfolding decodeWay types

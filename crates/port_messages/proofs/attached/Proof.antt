@@ -13,7 +13,9 @@ wrong-size-requires c κs = search needs
 
 returns : tie.Need-returns
 unfolding decodeForm layout littleEndian
-returns c = simp (c .wrong-size .ensures, ne-eqb _ _ (c .before .if1 .taken), c .before .before .before .pre)
+returns c =
+    let c1 = c .before .before .before in
+    simp (c .wrong-size .ensures, ne-eqb _ _ (c .before .if1 .taken), c1 .pre)
 
 shared-slice-read-t5 : tie.Need-shared-slice-read-t5
 shared-slice-read-t5 c = search needs
@@ -35,7 +37,13 @@ i32-of-requires-2 c κs = search needs
 
 returns-2 : tie.Need-returns-2
 unfolding decodeForm layout littleEndian
-returns-2 c = rw (toZ-ofZ {w = w32} {z = c .i32-of2 .result} (record { sfits = c .i32-of2 .ok }), toZ-ofZ {w = w32} {z = c .before .before .i32-of .result} (record { sfits = c .before .before .i32-of .ok })) (simp (c .i32-of2 .ensures, c .before .u32-at2 .ensures, c .before .before .i32-of .ensures, c .before .before .before .u32-at .ensures, c .before .before .before .before .u16-at .ensures, eq-eqb _ _ (c .before .before .before .before .before .before .if1 .left), c .before .before .before .before .before .before .before .before .pre))
+returns-2 c =
+    let c1 = c .before .before in
+    let c2 = c1 .before in
+    let c3 = c2 .before in
+    let c4 = c3 .before .before in
+    let c5 = c4 .before .before in
+    rw (toZ-ofZ {w = w32} {z = c .i32-of2 .result} (record { sfits = c .i32-of2 .ok }), toZ-ofZ {w = w32} {z = c1 .i32-of .result} (record { sfits = c1 .i32-of .ok })) (simp (c .i32-of2 .ensures, c .before .u32-at2 .ensures, c1 .i32-of .ensures, c2 .u32-at .ensures, c3 .u16-at .ensures, eq-eqb _ _ (c4 .if1 .left), c5 .pre))
 
 pub attached-spec : {M : Type 1} → statement M
 attached-spec =

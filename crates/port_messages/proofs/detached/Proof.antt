@@ -18,7 +18,9 @@ shared-slice-read-t5 c = search needs
 
 returns-2 : tie.Need-returns-2
 unfolding decodeForm layout littleEndian
-returns-2 c = simp (eq-eqb _ _ (c .before .if1 .left), c .before .before .before .pre)
+returns-2 c =
+    let c1 = c .before .before .before in
+    simp (eq-eqb _ _ (c .before .if1 .left), c1 .pre)
 
 pub detached-spec : {M : Type 1} → statement M
 detached-spec = tie.close (tie.spec wrong-size-requires returns shared-slice-read-t5 returns-2)

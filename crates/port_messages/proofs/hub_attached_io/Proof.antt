@@ -31,19 +31,27 @@ outside-requires c κs = search needs
 
 returns-2 : tie.Need-returns-2
 unfolding hubAttachedIo decodeType
-returns-2 c = simp (c .detached .ensures, le-ltb _ _ (c .before .before .before .if1 .left), c .before .match .keys1)
+returns-2 c =
+    let c1 = c .before .before .before in
+    simp (c .detached .ensures, le-ltb _ _ (c1 .if1 .left), c .before .match .keys1)
 
 returns-3 : tie.Need-returns-3
 unfolding hubAttachedIo decodeType
-returns-3 c = simp (c .attached .ensures, le-ltb _ _ (c .before .before .before .if1 .left), c .before .match .keys2)
+returns-3 c =
+    let c1 = c .before .before .before in
+    simp (c .attached .ensures, le-ltb _ _ (c1 .if1 .left), c .before .match .keys2)
 
 returns-4 : tie.Need-returns-4
 unfolding hubAttachedIo decodeType
-returns-4 c = simp (c .attached-virtual .ensures, le-ltb _ _ (c .before .before .before .if1 .left), c .before .match .keys3)
+returns-4 c =
+    let c1 = c .before .before .before in
+    simp (c .attached-virtual .ensures, le-ltb _ _ (c1 .if1 .left), c .before .match .keys3)
 
 returns-5 : tie.Need-returns-5
 unfolding hubAttachedIo decodeType
-returns-5 c = simp (c .outside .ensures, le-ltb _ _ (c .before .before .before .if1 .left), ne-eqb _ _ (c .before .match .rest .0 .0 .1), ne-eqb _ _ (c .before .match .rest .0 .1), ne-eqb _ _ (c .before .match .rest .1))
+returns-5 c =
+    let c1 = c .before .before .before in
+    simp (c .outside .ensures, le-ltb _ _ (c1 .if1 .left), ne-eqb _ _ (c .before .match .rest .0 .0 .1), ne-eqb _ _ (c .before .match .rest .0 .1), ne-eqb _ _ (c .before .match .rest .1))
 
 pub hub-attached-io-spec : {M : Type 1} → statement M
 hub-attached-io-spec =

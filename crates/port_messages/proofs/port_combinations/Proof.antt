@@ -28,7 +28,10 @@ wrong-size-requires-3 c κs = search needs
 
 returns-3 : tie.Need-returns-3
 unfolding decodeForm layout littleEndian
-returns-3 c = simp (c .wrong-size3 .ensures, ne-eqb _ _ (c .before .if3 .taken), le-leb _ _ (c .before .before .if2 .left), le-leb _ _ (c .before .before .before .if1 .left))
+returns-3 c =
+    let c1 = c .before .before in
+    let c2 = c1 .before in
+    simp (c .wrong-size3 .ensures, ne-eqb _ _ (c .before .if3 .taken), le-leb _ _ (c1 .if2 .left), le-leb _ _ (c2 .if1 .left))
 
 sub-count : tie.Need-sub-count
 sub-count c = search needs
@@ -65,7 +68,18 @@ entry-requires-8 c κs = search needs
 
 returns-4 : tie.Need-returns-4
 unfolding decodeForm layout littleEndian
-returns-4 c = simp (c .entry8 .ensures, c .before .entry7 .ensures, c .before .before .entry6 .ensures, c .before .before .before .entry5 .ensures, c .before .before .before .before .entry4 .ensures, c .before .before .before .before .before .entry3 .ensures, c .before .before .before .before .before .before .entry2 .ensures, c .before .before .before .before .before .before .before .entry .ensures, eq-eqb _ _ (c .before .before .before .before .before .before .before .before .before .if3 .left), le-leb _ _ (c .before .before .before .before .before .before .before .before .before .before .if2 .left), le-leb _ _ (c .before .before .before .before .before .before .before .before .before .before .before .if1 .left), c .before .before .before .before .before .before .before .before .before .before .before .before .before .pre)
+returns-4 c =
+    let c1 = c .before .before in
+    let c2 = c1 .before in
+    let c3 = c2 .before in
+    let c4 = c3 .before in
+    let c5 = c4 .before in
+    let c6 = c5 .before in
+    let c7 = c6 .before .before in
+    let c8 = c7 .before in
+    let c9 = c8 .before in
+    let c10 = c9 .before .before in
+    simp (c .entry8 .ensures, c .before .entry7 .ensures, c1 .entry6 .ensures, c2 .entry5 .ensures, c3 .entry4 .ensures, c4 .entry3 .ensures, c5 .entry2 .ensures, c6 .entry .ensures, eq-eqb _ _ (c7 .if3 .left), le-leb _ _ (c8 .if2 .left), le-leb _ _ (c9 .if1 .left), c10 .pre)
 
 pub port-combinations-spec : {M : Type 1} → statement M
 port-combinations-spec =

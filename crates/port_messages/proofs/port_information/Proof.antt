@@ -28,15 +28,21 @@ outside-requires c κs = search needs
 
 returns-2 : tie.Need-returns-2
 unfolding portInformation decodeType
-returns-2 c = simp (c .port-modes .ensures, le-ltb _ _ (c .before .before .before .if1 .left), c .before .match .keys1)
+returns-2 c =
+    let c1 = c .before .before .before in
+    simp (c .port-modes .ensures, le-ltb _ _ (c1 .if1 .left), c .before .match .keys1)
 
 returns-3 : tie.Need-returns-3
 unfolding portInformation decodeType
-returns-3 c = simp (c .port-combinations .ensures, le-ltb _ _ (c .before .before .before .if1 .left), c .before .match .keys2)
+returns-3 c =
+    let c1 = c .before .before .before in
+    simp (c .port-combinations .ensures, le-ltb _ _ (c1 .if1 .left), c .before .match .keys2)
 
 returns-4 : tie.Need-returns-4
 unfolding portInformation decodeType
-returns-4 c = simp (c .outside .ensures, le-ltb _ _ (c .before .before .before .if1 .left), ne-eqb _ _ (c .before .match .rest .0 .1), ne-eqb _ _ (c .before .match .rest .1))
+returns-4 c =
+    let c1 = c .before .before .before in
+    simp (c .outside .ensures, le-ltb _ _ (c1 .if1 .left), ne-eqb _ _ (c .before .match .rest .0 .1), ne-eqb _ _ (c .before .match .rest .1))
 
 pub port-information-spec : {M : Type 1} → statement M
 port-information-spec =

@@ -21,14 +21,18 @@ outside-requires c κs = search needs
 
 returns-2 : tie.Need-returns-2
 unfolding decodeForm layout littleEndian
-returns-2 c = simp (c .outside .ensures, lt-leb _ _ (c .before .if2 .taken), eq-eqb _ _ (c .before .before .before .if1 .left))
+returns-2 c =
+    let c1 = c .before .before .before in
+    simp (c .outside .ensures, lt-leb _ _ (c .before .if2 .taken), eq-eqb _ _ (c1 .if1 .left))
 
 shared-slice-read-t6 : tie.Need-shared-slice-read-t6
 shared-slice-read-t6 c = search needs
 
 returns-3 : tie.Need-returns-3
 unfolding decodeForm layout littleEndian
-returns-3 c = simp (le-leb _ _ (c .before .if2 .left), eq-eqb _ _ (c .before .before .before .if1 .left))
+returns-3 c =
+    let c1 = c .before .before .before in
+    simp (le-leb _ _ (c .before .if2 .left), eq-eqb _ _ (c1 .if1 .left))
 
 pub port-information-request-spec : {M : Type 1} → statement M
 port-information-request-spec =

@@ -21,7 +21,9 @@ outside-requires c κs = search needs
 
 returns-2 : tie.Need-returns-2
 unfolding decodeForm layout littleEndian
-returns-2 c = simp (c .outside .ensures, lt-leb _ _ (c .before .if2 .taken), eq-eqb _ _ (c .before .before .before .if1 .left))
+returns-2 c =
+    let c1 = c .before .before .before in
+    simp (c .outside .ensures, lt-leb _ _ (c .before .if2 .taken), eq-eqb _ _ (c1 .if1 .left))
 
 shared-slice-read-t6 : tie.Need-shared-slice-read-t6
 shared-slice-read-t6 c = search needs
@@ -37,7 +39,11 @@ u16-at-requires-2 c κs = search needs
 
 returns-3 : tie.Need-returns-3
 unfolding decodeForm layout littleEndian
-returns-3 c = simp (c .u16-at2 .ensures, c .before .u16-at .ensures, le-leb _ _ (c .before .before .before .before .if2 .left), eq-eqb _ _ (c .before .before .before .before .before .before .if1 .left), c .before .before .before .before .before .before .before .before .pre)
+returns-3 c =
+    let c1 = c .before .before .before .before in
+    let c2 = c1 .before .before in
+    let c3 = c2 .before .before in
+    simp (c .u16-at2 .ensures, c .before .u16-at .ensures, le-leb _ _ (c1 .if2 .left), eq-eqb _ _ (c2 .if1 .left), c3 .pre)
 
 pub port-modes-spec : {M : Type 1} → statement M
 port-modes-spec =

@@ -11,14 +11,18 @@ wrong-size-requires c κs = search needs
 
 returns : tie.Need-returns
 unfolding decodeForm layout littleEndian
-returns c = simp (c .wrong-size .ensures, ne-eqb _ _ (c .before .if1 .taken), c .before .before .before .pre)
+returns c =
+    let c1 = c .before .before .before in
+    simp (c .wrong-size .ensures, ne-eqb _ _ (c .before .if1 .taken), c1 .pre)
 
 shared-slice-read-t5 : tie.Need-shared-slice-read-t5
 shared-slice-read-t5 c = search needs
 
 returns-2 : tie.Need-returns-2
 unfolding decodeForm layout littleEndian
-returns-2 c = simp (eq-eqb _ _ (c .before .if1 .left), c .before .before .before .pre)
+returns-2 c =
+    let c1 = c .before .before .before in
+    simp (eq-eqb _ _ (c .before .if1 .left), c1 .pre)
 
 pub virtual-disconnect-spec : {M : Type 1} → statement M
 virtual-disconnect-spec =

@@ -1,3 +1,5 @@
+use Prim.Native.Nat.{_<_}
+use lib.ListN.{length}
 use Rattle.protocol.proofs.Selection.{too-short}
 use Rattle.protocol.specs.Decode.{decodeType}
 use Rattle.protocol.specs.Types.{virtualPortSetup}
@@ -12,7 +14,10 @@ wrong-size-requires c κs = search needs
 
 returns : tie.Need-returns
 unfolding virtualPortSetup
-returns c = c .wrong-size .ensures ∙ sym (too-short virtualPortSetup _ (c .before .if1 .taken))
+returns c =
+    let s = c .before .before .before .args .s .now in
+    let short : length s < 4 = c .before .if1 .taken in
+    c .wrong-size .ensures ∙ sym (too-short virtualPortSetup s short)
 
 shared-slice-read-sub : tie.Need-shared-slice-read-sub
 shared-slice-read-sub c = search needs
@@ -28,15 +33,21 @@ outside-requires c κs = search needs
 
 returns-2 : tie.Need-returns-2
 unfolding virtualPortSetup decodeType
-returns-2 c = simp (c .virtual-disconnect .ensures, le-ltb _ _ (c .before .before .before .if1 .left), c .before .match .keys1)
+returns-2 c =
+    let c1 = c .before .before .before in
+    simp (c .virtual-disconnect .ensures, le-ltb _ _ (c1 .if1 .left), c .before .match .keys1)
 
 returns-3 : tie.Need-returns-3
 unfolding virtualPortSetup decodeType
-returns-3 c = simp (c .virtual-connect .ensures, le-ltb _ _ (c .before .before .before .if1 .left), c .before .match .keys2)
+returns-3 c =
+    let c1 = c .before .before .before in
+    simp (c .virtual-connect .ensures, le-ltb _ _ (c1 .if1 .left), c .before .match .keys2)
 
 returns-4 : tie.Need-returns-4
 unfolding virtualPortSetup decodeType
-returns-4 c = simp (c .outside .ensures, le-ltb _ _ (c .before .before .before .if1 .left), ne-eqb _ _ (c .before .match .rest .0 .1), ne-eqb _ _ (c .before .match .rest .1))
+returns-4 c =
+    let c1 = c .before .before .before in
+    simp (c .outside .ensures, le-ltb _ _ (c1 .if1 .left), ne-eqb _ _ (c .before .match .rest .0 .1), ne-eqb _ _ (c .before .match .rest .1))
 
 pub virtual-port-setup-spec : {M : Type 1} → statement M
 virtual-port-setup-spec =

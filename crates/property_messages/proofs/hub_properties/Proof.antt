@@ -29,8 +29,10 @@ outside-requires c κs = search needs
 returns-2 : tie.Need-returns-2
 unfolding decodeType hubProperties
 returns-2 c =
-    c .outside .ensures ∙ ap (refused 7) (c .before .before .outside-selector .ensures)
-    ∙ sym (rw (le-ltb _ _ (c .before .before .before .before .before .if1 .left)) (selector-outside _ _ _ _ (refused 7) (λ e. c .before .if2 .taken (c .before .before .outside-selector .ensures ∙ e))))
+    let c1 = c .before .before in
+    let c2 = c1 .before .before .before in
+    c .outside .ensures ∙ ap (refused 7) (c1 .outside-selector .ensures)
+    ∙ sym (rw (le-ltb _ _ (c2 .if1 .left)) (selector-outside _ _ _ _ (refused 7) (λ e. c .before .if2 .taken (c1 .outside-selector .ensures ∙ e))))
 
 carries-requires : tie.Need-carries-requires
 carries-requires c κs = search needs
@@ -44,14 +46,22 @@ property-command-requires c κs = search needs
 returns-3 : tie.Need-returns-3
 unfolding decodeType hubProperties
 returns-3 c =
-    let e = selectors-inside _ _ _ (sym (c .before .before .before .before .outside-selector .ensures) ∙ c .before .before .before .if2 .left) in
-    simp (c .payload .ensures, sym (c .before .before .carries .ensures) ∙ c .before .if3 .taken, e .0, e .1, le-ltb _ _ (c .before .before .before .before .before .before .before .if1 .left))
+    let c1 = c .before .before in
+    let c2 = c1 .before in
+    let c3 = c2 .before in
+    let c4 = c3 .before .before .before in
+    let e = selectors-inside _ _ _ (sym (c3 .outside-selector .ensures) ∙ c2 .if2 .left) in
+    simp (c .payload .ensures, sym (c1 .carries .ensures) ∙ c .before .if3 .taken, e .0, e .1, le-ltb _ _ (c4 .if1 .left))
 
 returns-4 : tie.Need-returns-4
 unfolding decodeType hubProperties
 returns-4 c =
-    let e = selectors-inside _ _ _ (sym (c .before .before .before .before .outside-selector .ensures) ∙ c .before .before .before .if2 .left) in
-    simp (c .property-command .ensures, sym (c .before .before .carries .ensures) ∙ c .before .if3 .left, e .0, e .1, le-ltb _ _ (c .before .before .before .before .before .before .before .if1 .left))
+    let c1 = c .before .before in
+    let c2 = c1 .before in
+    let c3 = c2 .before in
+    let c4 = c3 .before .before .before in
+    let e = selectors-inside _ _ _ (sym (c3 .outside-selector .ensures) ∙ c2 .if2 .left) in
+    simp (c .property-command .ensures, sym (c1 .carries .ensures) ∙ c .before .if3 .left, e .0, e .1, le-ltb _ _ (c4 .if1 .left))
 
 pub hub-properties-spec : {M : Type 1} → statement M
 hub-properties-spec =

@@ -24,7 +24,9 @@ u48-at-requires c κs = search needs
 
 returns-2 : tie.Need-returns-2
 unfolding decodeForm layout littleEndian bigEndian
-returns-2 c = simp (c .u48-at .ensures, eq-eqb _ _ (c .before .before .before .if1 .left))
+returns-2 c =
+    let c1 = c .before .before .before in
+    simp (c .u48-at .ensures, eq-eqb _ _ (c1 .if1 .left))
 
 pub property-address-spec : {M : Type 1} → statement M
 property-address-spec =

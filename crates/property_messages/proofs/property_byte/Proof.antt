@@ -27,14 +27,20 @@ outside-requires c κs = search needs
 
 returns-2 : tie.Need-returns-2
 unfolding decodeForm layout littleEndian
-returns-2 c = simp (c .outside .ensures, lt-leb _ _ (c .before .if2 .taken), ← c .before .before .greatest .ensures, eq-eqb _ _ (c .before .before .before .before .before .if1 .left))
+returns-2 c =
+    let c1 = c .before .before in
+    let c2 = c1 .before .before .before in
+    simp (c .outside .ensures, lt-leb _ _ (c .before .if2 .taken), ← c1 .greatest .ensures, eq-eqb _ _ (c2 .if1 .left))
 
 shared-slice-read-t7 : tie.Need-shared-slice-read-t7
 shared-slice-read-t7 c = search needs
 
 returns-3 : tie.Need-returns-3
 unfolding decodeForm layout littleEndian
-returns-3 c = simp (le-leb _ _ (c .before .if2 .left), ← c .before .before .greatest .ensures, eq-eqb _ _ (c .before .before .before .before .before .if1 .left))
+returns-3 c =
+    let c1 = c .before .before in
+    let c2 = c1 .before .before .before in
+    simp (le-leb _ _ (c .before .if2 .left), ← c1 .greatest .ensures, eq-eqb _ _ (c2 .if1 .left))
 
 pub property-byte-spec : {M : Type 1} → statement M
 property-byte-spec =

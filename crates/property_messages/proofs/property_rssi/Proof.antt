@@ -13,7 +13,9 @@ wrong-size-requires c κs = search needs
 
 returns : tie.Need-returns
 unfolding decodeForm layout littleEndian
-returns c = simp (c .wrong-size .ensures, ne-eqb _ _ (c .before .if1 .taken), c .before .before .before .pre)
+returns c =
+    let c1 = c .before .before .before in
+    simp (c .wrong-size .ensures, ne-eqb _ _ (c .before .if1 .taken), c1 .pre)
 
 shared-slice-read-t5 : tie.Need-shared-slice-read-t5
 shared-slice-read-t5 c = search needs
@@ -26,7 +28,10 @@ i8-of-requires c κs = search needs
 
 returns-2 : tie.Need-returns-2
 unfolding decodeForm layout littleEndian
-returns-2 c = rw (toZ-ofZ {w = w8} {z = c .i8-of .result} (record { sfits = c .i8-of .ok })) (simp (c .i8-of .ensures, eq-eqb _ _ (c .before .before .before .if1 .left), c .before .before .before .before .before .pre))
+returns-2 c =
+    let c1 = c .before .before .before in
+    let c2 = c1 .before .before in
+    rw (toZ-ofZ {w = w8} {z = c .i8-of .result} (record { sfits = c .i8-of .ok })) (simp (c .i8-of .ensures, eq-eqb _ _ (c1 .if1 .left), c2 .pre))
 
 pub property-rssi-spec : {M : Type 1} → statement M
 property-rssi-spec =

@@ -18,7 +18,10 @@ wrong-size-requires-2 c κs = search needs
 
 returns-2 : tie.Need-returns-2
 unfolding decodeForm layout littleEndian
-returns-2 c = simp (c .wrong-size2 .ensures, lt-leb _ _ (c .before .if2 .taken), le-leb _ _ (c .before .before .if1 .left), ← c .before .before .before .before .pre)
+returns-2 c =
+    let c1 = c .before .before in
+    let c2 = c1 .before .before in
+    simp (c .wrong-size2 .ensures, lt-leb _ _ (c .before .if2 .taken), le-leb _ _ (c1 .if1 .left), ← c2 .pre)
 
 shared-slice-read-t6 : tie.Need-shared-slice-read-t6
 shared-slice-read-t6 c = search needs
@@ -28,7 +31,11 @@ shared-slice-read-t8 c = search needs
 
 returns-3 : tie.Need-returns-3
 unfolding decodeForm layout littleEndian
-returns-3 c = simp (le-leb _ _ (c .before .before .if2 .left), le-leb _ _ (c .before .before .before .if1 .left), ← c .before .before .before .before .before .pre)
+returns-3 c =
+    let c1 = c .before .before in
+    let c2 = c1 .before in
+    let c3 = c2 .before .before in
+    simp (le-leb _ _ (c1 .if2 .left), le-leb _ _ (c2 .if1 .left), ← c3 .pre)
 
 pub property-text-spec : {M : Type 1} → statement M
 property-text-spec =

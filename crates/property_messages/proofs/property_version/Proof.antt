@@ -29,7 +29,9 @@ i32-of-requires c κs = search needs
 
 returns-2 : tie.Need-returns-2
 unfolding decodeForm layout littleEndian
-returns-2 c = rw (toZ-ofZ {w = w32} {z = c .i32-of .result} (record { sfits = c .i32-of .ok })) (simp (c .i32-of .ensures, c .before .u32-at .ensures, eq-eqb _ _ (c .before .before .before .before .if1 .left)))
+returns-2 c =
+    let c1 = c .before .before .before .before in
+    rw (toZ-ofZ {w = w32} {z = c .i32-of .result} (record { sfits = c .i32-of .ok })) (simp (c .i32-of .ensures, c .before .u32-at .ensures, eq-eqb _ _ (c1 .if1 .left)))
 
 pub property-version-spec : {M : Type 1} → statement M
 property-version-spec =
