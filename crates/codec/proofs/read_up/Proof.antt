@@ -1,8 +1,8 @@
 use borrow.Author.Tests.{ne-eqb}
-use mathlib.Core.Path.{sym, _∙_}
+use mathlib.Core.Path.{_≡_, sym, _∙_}
 use Rattle.protocol.specs.declared.Way.the-variants.{Up}
-use Rattle.protocol.specs.Types.{types}
-use Rattle.protocol.specs.Decode.{decodeWay}
+use Rattle.protocol.specs.Types.{types, hubProperties}
+use Rattle.protocol.specs.Decode.{decodeType, decodeWay}
 use Rattle.protocol.proofs.Selection.{typed, long-enough}
 use borrow.Author.Needs.{needs}
 use Rattle.codec.proofs.read_up.Statement.{statement}
@@ -46,7 +46,10 @@ refuse-requires c κs = search needs
 
 returns : tie.Need-returns
 unfolding types
-returns c = c .hub-properties .ensures ∙ sym (typed Up _ 1 (c .before .match .keys1))
+returns c =
+    let s = c .before .before .before .before .args .s .now in
+    let e : decodeType (hubProperties Up) s ≡ decodeWay Up s = sym (typed Up s 1 (c .before .match .keys1)) in
+    c .hub-properties .ensures ∙ e
 
 returns-2 : tie.Need-returns-2
 unfolding types
