@@ -2,6 +2,7 @@ use borrow.Author.Tests.{ne-eqb}
 use mathlib.Core.Path.{_≡_, sym, _∙_}
 use Rattle.protocol.specs.declared.Way.the-variants.{Up}
 use Rattle.protocol.specs.Types.{types, hubProperties}
+use Rattle.protocol.specs.Answer.{answerOf}
 use Rattle.protocol.specs.Decode.{decodeType, decodeWay}
 use Rattle.protocol.proofs.Selection.{typed, long-enough}
 use borrow.Author.Needs.{needs}
@@ -48,8 +49,8 @@ returns : tie.Need-returns
 unfolding types
 returns c =
     let s = c .before .before .before .before .args .s .now in
-    let e : decodeType (hubProperties Up) s ≡ decodeWay Up s = sym (typed Up s 1 (c .before .match .keys1)) in
-    c .hub-properties .ensures ∙ e
+    let up : answerOf (c .hub-properties .result) ≡ decodeType (hubProperties Up) s = c .hub-properties .ensures in
+    up ∙ sym (typed Up s 1 (c .before .match .keys1))
 
 returns-2 : tie.Need-returns-2
 unfolding types
@@ -97,7 +98,9 @@ returns-10 c =
 
 returns-11 : tie.Need-returns-11
 unfolding decodeWay types
-returns-11 c = simp (c .refuse .ensures, ne-eqb _ _ (c .before .match .rest .0 .0 .0 .0 .0 .0 .0 .0 .0 .1), ne-eqb _ _ (c .before .match .rest .0 .0 .0 .0 .0 .0 .0 .0 .1), ne-eqb _ _ (c .before .match .rest .0 .0 .0 .0 .0 .0 .0 .1), ne-eqb _ _ (c .before .match .rest .0 .0 .0 .0 .0 .0 .1), ne-eqb _ _ (c .before .match .rest .0 .0 .0 .0 .0 .1), ne-eqb _ _ (c .before .match .rest .0 .0 .0 .0 .1), ne-eqb _ _ (c .before .match .rest .0 .0 .0 .1), ne-eqb _ _ (c .before .match .rest .0 .0 .1), ne-eqb _ _ (c .before .match .rest .0 .1), ne-eqb _ _ (c .before .match .rest .1))
+returns-11 c =
+    let r = c .before .match .rest in
+    simp (c .refuse .ensures, ne-eqb _ _ (r .0 .0 .0 .0 .0 .0 .0 .0 .0 .1), ne-eqb _ _ (r .0 .0 .0 .0 .0 .0 .0 .0 .1), ne-eqb _ _ (r .0 .0 .0 .0 .0 .0 .0 .1), ne-eqb _ _ (r .0 .0 .0 .0 .0 .0 .1), ne-eqb _ _ (r .0 .0 .0 .0 .0 .1), ne-eqb _ _ (r .0 .0 .0 .0 .1), ne-eqb _ _ (r .0 .0 .0 .1), ne-eqb _ _ (r .0 .0 .1), ne-eqb _ _ (r .0 .1), ne-eqb _ _ (r .1))
 
 pub read-up-spec : {M : Type 1} → statement M
 read-up-spec =

@@ -1,8 +1,9 @@
 use mathlib.Core.Path.{_≡_, sym, _∙_}
 use borrow.Author.Tests.{eq-eqb, ne-eqb, le-leb, lt-leb, not-true, not-false}
 use Rattle.protocol.specs.Number.{littleEndian}
-use Rattle.protocol.specs.Form.{layout, valueFormat}
+use Rattle.protocol.specs.Form.{layout}
 use Rattle.protocol.specs.Decode.{decodeForm, refused}
+use Rattle.protocol.specs.Answer.{answerOf}
 use borrow.Author.Needs.{needs}
 use Rattle.mode_messages.proofs.value_format.Statement.{statement}
 use Rattle.mode_messages.proofs.value_format.Tie as tie
@@ -56,8 +57,8 @@ returns-4 c =
     let c2 = c1 .before in
     let c3 = c2 .before .before in
     let c4 = c3 .before .before in
-    let e : decodeForm valueFormat (c4 .before .before .args .s .now) ≡ refused 7 7 = simp (lt-leb _ _ (c .before .if4 .taken), sym (c2 .between .ensures) ∙ not-false _ (c1 .if3 .left), le-leb _ _ (c3 .if2 .left), eq-eqb _ _ (c4 .if1 .left)) in
-    c .outside3 .ensures ∙ sym e
+    let seven : answerOf (c .outside3 .result) ≡ refused 7 7 = c .outside3 .ensures in
+    simp (seven, lt-leb _ _ (c .before .if4 .taken), sym (c2 .between .ensures) ∙ not-false _ (c1 .if3 .left), le-leb _ _ (c3 .if2 .left), eq-eqb _ _ (c4 .if1 .left))
 
 shared-slice-read-t8 : tie.Need-shared-slice-read-t8
 shared-slice-read-t8 c = search needs

@@ -51,7 +51,8 @@ returns-5 : tie.Need-returns-5
 unfolding hubAttachedIo decodeType
 returns-5 c =
     let c1 = c .before .before .before in
-    simp (c .outside .ensures, le-ltb _ _ (c1 .if1 .left), ne-eqb _ _ (c .before .match .rest .0 .0 .1), ne-eqb _ _ (c .before .match .rest .0 .1), ne-eqb _ _ (c .before .match .rest .1))
+    let r = c .before .match .rest in
+    simp (c .outside .ensures, le-ltb _ _ (c1 .if1 .left), ne-eqb _ _ (r .0 .0 .1), ne-eqb _ _ (r .0 .1), ne-eqb _ _ (r .1))
 
 pub hub-attached-io-spec : {M : Type 1} → statement M
 hub-attached-io-spec =
