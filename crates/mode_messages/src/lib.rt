@@ -1,4 +1,4 @@
-// What a mode of a port is: 0x44.
+// Reading what a mode of a port is: 0x44.
 use hub_messages::refusal::outside;
 use hub_messages::refusal::wrong_size;
 use hub_messages::rule::between;

@@ -1,4 +1,4 @@
-// Hub properties: 0x01.
+// Reading hub properties: 0x01.
 use hub_messages::property::carries;
 use hub_messages::property::greatest;
 use hub_messages::property::outside_selector;
