@@ -1,20 +1,5 @@
 // Reading messages of LEGO Wireless Protocol 3.0, each function proved equal to its definition in
 // the crate `protocol`.
-mod mode;
-pub mod number;
-mod port;
-mod property;
-
-use crate::mode::port_mode_information;
-use crate::port::hub_attached_io;
-use crate::port::input_format;
-use crate::port::input_format_setup;
-use crate::port::mode_information_request;
-use crate::port::port_information;
-use crate::port::port_information_request;
-use crate::port::port_value;
-use crate::port::virtual_port_setup;
-use crate::property::hub_properties;
 use hub_messages::firmware::go_into_boot_mode;
 use hub_messages::firmware::lock_memory;
 use hub_messages::firmware::lock_status;
@@ -25,6 +10,16 @@ use hub_messages::hub::hub_actions_up;
 use hub_messages::hub::hub_alerts_down;
 use hub_messages::hub::hub_alerts_up;
 use hub_messages::refusal::refuse;
+use mode_messages::port_mode_information;
+use port_messages::hub_attached_io;
+use port_messages::input_format;
+use port_messages::input_format_setup;
+use port_messages::mode_information_request;
+use port_messages::port_information;
+use port_messages::port_information_request;
+use port_messages::port_value;
+use port_messages::virtual_port_setup;
+use property_messages::hub_properties;
 use protocol::Message;
 use protocol::Reading;
 use protocol::Way;

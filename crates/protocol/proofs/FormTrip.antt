@@ -126,6 +126,10 @@ was-read f s vs e =
 front-back : (s : List ℕ) (w : ℕ) → part s header w ++ drop (header + w) s ≡ drop header s
 front-back s w = rw (← drop-drop w header s) (take-append-drop w (drop header s))
 
+-- bytes that were written become a message
+closed-written : (f : Form) (bs : List ℕ) (vs : List Value) → closed f (wrote bs vs) ≡ encoded (framed (code f) bs)
+closed-written f bs vs = refl
+
 pub form-written : (f : Form) (s : List ℕ) → Bytes s → (vs : List Value) → decodeForm f s ≡ accepted f vs
     → encodeForm f vs (openBytes s (header + widths (layout f .fields)) (layout f .rest)) ≡ encoded (framed (code f) (drop header s))
 unfolding encodeForm
@@ -142,7 +146,7 @@ form-written f s b vs e =
     in
     let after : afterFields fs vs ≡ both .second = wrote-after fs header vs (part s header (widths fs)) (both .second) fields in
     let right : restFits r (afterFields fs vs) (length opens) ≡ true = ap (λ (l : List Value). restFits r l (length opens)) after ∙ w .right in
-    rw (right, fields, w .written) (ap (λ (l : List ℕ). encoded (framed (code f) l)) (front-back s (widths fs)))
+    rw (right, fields, w .written) (closed-written f (part s header (widths fs) ++ drop end s) (w .left) ∙ ap (λ (l : List ℕ). encoded (framed (code f) l)) (front-back s (widths fs)))
 
 -- ---- what was written is read back
 

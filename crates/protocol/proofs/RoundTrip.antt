@@ -6,7 +6,7 @@ use mathlib.Core.Bool.{Bool, true, false, cond, _&&_}
 use mathlib.Core.List.{List, [], _∷_}
 use mathlib.Core.Logic.{⊎-elim}
 use mathlib.Core.Option.{Option, none, some}
-use borrow.Author.Tests.{eqb-true, eq-eqb, ne-eqb, leb-true, lt-leb, ltb-false, le-ltb}
+use borrow.Author.Tests.{eqb-true, eq-eqb, ne-eqb, leb-true, ltb-false, le-ltb}
 use lib.Dec.{eqb, leb, ltb}
 use lib.ListN.{length, getD, take, drop}
 use lib.Seq.{getD-take, getD-drop}
@@ -170,8 +170,9 @@ framed-back [] c h a b d = absurd (omega arith)
 framed-back (x ∷ []) c h a b d = absurd (omega arith)
 framed-back (x ∷ y ∷ []) c h a b d = absurd (omega arith)
 framed-back (x ∷ y ∷ z ∷ s) c h a b d =
-    let size : getD (framed c s) 0 0 ≡ x = omega arith in
-    ap (λ (n : ℕ). n ∷ 0 ∷ c ∷ s) size ∙ ap (λ (n : ℕ). x ∷ n ∷ c ∷ s) (sym b) ∙ ap (λ (n : ℕ). x ∷ y ∷ n ∷ s) (sym d)
+    let size : 3 + length s ≡ x = omega arith in
+    let front : framed c s ≡ x ∷ 0 ∷ c ∷ s = ap (λ (n : ℕ). n ∷ 0 ∷ c ∷ s) size in
+    front ∙ ap (λ (n : ℕ). x ∷ n ∷ c ∷ s) (sym b) ∙ ap (λ (n : ℕ). x ∷ y ∷ n ∷ s) (sym d)
 
 pub values-written : (way : Way) (s : List ℕ) → Bytes s → (f : Form) (vs : List Value) → decode way s ≡ accepted f vs → encodeValues way f vs (openPart way s) ≡ encoded s
 unfolding encodeValues openPart

@@ -25,11 +25,16 @@ slice-aggregate-result c = search needs
 
 returns : tie.Need-returns
 unfolding openPart
-returns c = c .tail .ensures ∙ sym (c .before .open-start .ensures _ refl) ∙ ap (openOf _) (ap answerOf (sym (c .before .before .before .reading .given .1)) ∙ c .before .before .before .before .before .read .ensures)
+returns c =
+    let c1 = c .before .before .before in
+    let c2 = c1 .before .before in
+    c .tail .ensures ∙ sym (c .before .open-start .ensures _ refl) ∙ ap (openOf _) (ap answerOf (sym (c1 .reading .given .1)) ∙ c2 .read .ensures)
 
 returns-2 : tie.Need-returns-2
 unfolding openPart
-returns-2 c = sym (ap (openOf _) (sym (c .before .before .before .read .ensures) ∙ ap answerOf (c .before .enum-told .given .1)))
+returns-2 c =
+    let c1 = c .before .before .before in
+    sym (ap (openOf _) (sym (c1 .read .ensures) ∙ ap answerOf (c .before .enum-told .given .1)))
 
 pub open-part-spec : {M : Type 1} → statement M
 open-part-spec =

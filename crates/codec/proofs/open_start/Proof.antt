@@ -1,7 +1,7 @@
 -- A form with open bytes has them after its fields; of any other form nothing stands at the message's end.
 use Prim.Native.Nat.{ℕ}
 use native.Mathlib.Nat.{le-of-eq}
-use mathlib.Core.Path.{_≡_, sym}
+use mathlib.Core.Path.{_≡_, sym, ap}
 use mathlib.Core.List.{List, [], _∷_}
 use lib.ListN.{length, drop, drop-of-length-le}
 use types.Run.{OneOf, miss}
@@ -15,6 +15,9 @@ use Rattle.protocol.specs.Answer.{formOf, valuesOf}
 use borrow.Author.Needs.{needs}
 use Rattle.codec.proofs.open_start.Statement.{statement}
 use Rattle.codec.proofs.open_start.Tie as tie
+
+abbrev openOfMessage : List ℕ → Message → List ℕ
+openOfMessage s m = openOf s (accepted (formOf m) (valuesOf m))
 
 nothing-left : (s : List ℕ) (n : ℕ) → length s ≡ n → [] ≡ drop n s
 nothing-left s n e = sym (drop-of-length-le s (le-of-eq e))
@@ -69,15 +72,15 @@ enum-told-3 c = search needs
 
 returns : tie.Need-returns
 unfolding layout
-returns c = λ s e. rw (c .enum-told .given .1)
+returns c = λ s e. ap (openOfMessage s) (c .enum-told .given .1)
 
 returns-2 : tie.Need-returns-2
 unfolding layout
-returns-2 c = λ s e. rw (c .enum-told2 .given .1)
+returns-2 c = λ s e. ap (openOfMessage s) (c .enum-told2 .given .1)
 
 returns-3 : tie.Need-returns-3
 unfolding layout
-returns-3 c = λ s e. rw (c .enum-told3 .given .1)
+returns-3 c = λ s e. ap (openOfMessage s) (c .enum-told3 .given .1)
 
 returns-4 : tie.Need-returns-4
 returns-4 c = λ s e. no-open (c .before .args .m) (c .match .keys4) s (c .before .args .size) e

@@ -22,7 +22,9 @@ refuse-requires-2 c κs = search needs
 
 returns-2 : tie.Need-returns-2
 unfolding decode
-returns-2 c = simp (c .refuse2 .ensures, lt-ltb _ _ (c .before .if2 .taken), ne-eqb _ _ (c .before .before .before .if1 .left))
+returns-2 c =
+    let c1 = c .before .before .before in
+    simp (c .refuse2 .ensures, lt-ltb _ _ (c .before .if2 .taken), ne-eqb _ _ (c1 .if1 .left))
 
 cast-if3 : tie.Need-cast-if3
 cast-if3 c = search needs
@@ -32,14 +34,21 @@ refuse-requires-3 c κs = search needs
 
 returns-3 : tie.Need-returns-3
 unfolding decode
-returns-3 c = simp (c .refuse3 .ensures, ne-eqb _ _ (c .before .if3 .taken), le-ltb _ _ (c .before .before .if2 .left), ne-eqb _ _ (c .before .before .before .before .if1 .left))
+returns-3 c =
+    let c1 = c .before .before in
+    let c2 = c1 .before .before in
+    simp (c .refuse3 .ensures, ne-eqb _ _ (c .before .if3 .taken), le-ltb _ _ (c1 .if2 .left), ne-eqb _ _ (c2 .if1 .left))
 
 refuse-requires-4 : tie.Need-refuse-requires-4
 refuse-requires-4 c κs = search needs
 
 returns-4 : tie.Need-returns-4
 unfolding decode
-returns-4 c = simp (c .refuse4 .ensures, lt-ltb _ _ (c .before .if4 .taken), eq-eqb _ _ (c .before .before .if3 .left), le-ltb _ _ (c .before .before .before .if2 .left), ne-eqb _ _ (c .before .before .before .before .before .if1 .left))
+returns-4 c =
+    let c1 = c .before .before in
+    let c2 = c1 .before in
+    let c3 = c2 .before .before in
+    simp (c .refuse4 .ensures, lt-ltb _ _ (c .before .if4 .taken), eq-eqb _ _ (c1 .if3 .left), le-ltb _ _ (c2 .if2 .left), ne-eqb _ _ (c3 .if1 .left))
 
 shared-slice-read-if5 : tie.Need-shared-slice-read-if5
 shared-slice-read-if5 c = search needs
@@ -49,7 +58,12 @@ refuse-requires-5 c κs = search needs
 
 returns-5 : tie.Need-returns-5
 unfolding decode
-returns-5 c = simp (c .refuse5 .ensures, ne-eqb _ _ (c .before .if5 .taken), le-ltb _ _ (c .before .before .before .if4 .left), eq-eqb _ _ (c .before .before .before .before .if3 .left), le-ltb _ _ (c .before .before .before .before .before .if2 .left), ne-eqb _ _ (c .before .before .before .before .before .before .before .if1 .left))
+returns-5 c =
+    let c1 = c .before .before .before in
+    let c2 = c1 .before in
+    let c3 = c2 .before in
+    let c4 = c3 .before .before in
+    simp (c .refuse5 .ensures, ne-eqb _ 0 (c .before .if5 .taken), le-ltb _ _ (c1 .if4 .left), eq-eqb _ _ (c2 .if3 .left), le-ltb _ _ (c3 .if2 .left), ne-eqb _ _ (c4 .if1 .left))
 
 enum-told : tie.Need-enum-told
 enum-told c = search needs
@@ -64,14 +78,28 @@ read-up-requires : tie.Need-read-up-requires
 read-up-requires c κs = search needs
 
 returns-6 : tie.Need-returns-6
-returns-6 c = c .read-down .ensures ∙ ap (λ (w : Way). decodeWay w (c .before .before .before .before .before .before .before .before .before .before .before .args .message .now)) (sym (c .before .enum-told .given .1))
+returns-6 c =
+    let c1 = c .before .before .before in
+    let c2 = c1 .before .before in
+    let c3 = c2 .before in
+    let c4 = c3 .before in
+    let c5 = c4 .before .before in
+    let c6 = c5 .before .before in
+    c .read-down .ensures ∙ ap (λ (w : Way). decodeWay w (c6 .args .message .now)) (sym (c .before .enum-told .given .1))
     ∙ sym
-    (headed (c .before .before .before .before .before .before .before .before .before .before .before .args .way) (c .before .before .before .before .before .before .before .before .before .before .before .args .message .now) (ne-eqb _ _ (c .before .before .before .before .before .before .before .before .before .if1 .left)) (le-ltb _ _ (c .before .before .before .before .before .before .before .if2 .left)) (eq-eqb _ _ (c .before .before .before .before .before .before .if3 .left)) (le-ltb _ _ (c .before .before .before .before .before .if4 .left)) (eq-eqb _ _ (c .before .before .before .if5 .left)))
+    (headed (c6 .args .way) (c6 .args .message .now) (ne-eqb _ _ (c5 .if1 .left)) (le-ltb _ _ (c4 .if2 .left)) (eq-eqb _ _ (c3 .if3 .left)) (le-ltb _ _ (c2 .if4 .left)) (eq-eqb _ _ (c1 .if5 .left)))
 
 returns-7 : tie.Need-returns-7
-returns-7 c = c .read-up .ensures ∙ ap (λ (w : Way). decodeWay w (c .before .before .before .before .before .before .before .before .before .before .before .args .message .now)) (sym (c .before .enum-told2 .given .1))
+returns-7 c =
+    let c1 = c .before .before .before in
+    let c2 = c1 .before .before in
+    let c3 = c2 .before in
+    let c4 = c3 .before in
+    let c5 = c4 .before .before in
+    let c6 = c5 .before .before in
+    c .read-up .ensures ∙ ap (λ (w : Way). decodeWay w (c6 .args .message .now)) (sym (c .before .enum-told2 .given .1))
     ∙ sym
-    (headed (c .before .before .before .before .before .before .before .before .before .before .before .args .way) (c .before .before .before .before .before .before .before .before .before .before .before .args .message .now) (ne-eqb _ _ (c .before .before .before .before .before .before .before .before .before .if1 .left)) (le-ltb _ _ (c .before .before .before .before .before .before .before .if2 .left)) (eq-eqb _ _ (c .before .before .before .before .before .before .if3 .left)) (le-ltb _ _ (c .before .before .before .before .before .if4 .left)) (eq-eqb _ _ (c .before .before .before .if5 .left)))
+    (headed (c6 .args .way) (c6 .args .message .now) (ne-eqb _ _ (c5 .if1 .left)) (le-ltb _ _ (c4 .if2 .left)) (eq-eqb _ _ (c3 .if3 .left)) (le-ltb _ _ (c2 .if4 .left)) (eq-eqb _ _ (c1 .if5 .left)))
 
 pub read-spec : {M : Type 1} → statement M
 read-spec =

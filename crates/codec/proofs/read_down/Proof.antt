@@ -58,27 +58,39 @@ returns-3 c = c .hub-alerts-down .ensures ∙ sym (typed Down _ 3 (c .before .ma
 
 returns-4 : tie.Need-returns-4
 unfolding types
-returns-4 c = c .go-into-boot-mode .ensures ∙ sym (typed Down _ 16 (c .before .match .keys4) ∙ long-enough _ _ (c .before .before .before .before .pre))
+returns-4 c =
+    let c1 = c .before .before .before .before in
+    c .go-into-boot-mode .ensures ∙ sym (typed Down _ 16 (c .before .match .keys4) ∙ long-enough _ _ (c1 .pre))
 
 returns-5 : tie.Need-returns-5
 unfolding types
-returns-5 c = c .lock-memory .ensures ∙ sym (typed Down _ 17 (c .before .match .keys5) ∙ long-enough _ _ (c .before .before .before .before .pre))
+returns-5 c =
+    let c1 = c .before .before .before .before in
+    c .lock-memory .ensures ∙ sym (typed Down _ 17 (c .before .match .keys5) ∙ long-enough _ _ (c1 .pre))
 
 returns-6 : tie.Need-returns-6
 unfolding types
-returns-6 c = c .lock-status-request .ensures ∙ sym (typed Down _ 18 (c .before .match .keys6) ∙ long-enough _ _ (c .before .before .before .before .pre))
+returns-6 c =
+    let c1 = c .before .before .before .before in
+    c .lock-status-request .ensures ∙ sym (typed Down _ 18 (c .before .match .keys6) ∙ long-enough _ _ (c1 .pre))
 
 returns-7 : tie.Need-returns-7
 unfolding types
-returns-7 c = c .port-information-request .ensures ∙ sym (typed Down _ 33 (c .before .match .keys7) ∙ long-enough _ _ (c .before .before .before .before .pre))
+returns-7 c =
+    let c1 = c .before .before .before .before in
+    c .port-information-request .ensures ∙ sym (typed Down _ 33 (c .before .match .keys7) ∙ long-enough _ _ (c1 .pre))
 
 returns-8 : tie.Need-returns-8
 unfolding types
-returns-8 c = c .mode-information-request .ensures ∙ sym (typed Down _ 34 (c .before .match .keys8) ∙ long-enough _ _ (c .before .before .before .before .pre))
+returns-8 c =
+    let c1 = c .before .before .before .before in
+    c .mode-information-request .ensures ∙ sym (typed Down _ 34 (c .before .match .keys8) ∙ long-enough _ _ (c1 .pre))
 
 returns-9 : tie.Need-returns-9
 unfolding types
-returns-9 c = c .input-format-setup .ensures ∙ sym (typed Down _ 65 (c .before .match .keys9) ∙ long-enough _ _ (c .before .before .before .before .pre))
+returns-9 c =
+    let c1 = c .before .before .before .before in
+    c .input-format-setup .ensures ∙ sym (typed Down _ 65 (c .before .match .keys9) ∙ long-enough _ _ (c1 .pre))
 
 returns-10 : tie.Need-returns-10
 unfolding types
@@ -86,7 +98,9 @@ returns-10 c = c .virtual-port-setup .ensures ∙ sym (typed Down _ 97 (c .befor
 
 returns-11 : tie.Need-returns-11
 unfolding decodeWay types
-returns-11 c = simp (c .refuse .ensures, ne-eqb _ _ (c .before .match .rest .0 .0 .0 .0 .0 .0 .0 .0 .0 .1), ne-eqb _ _ (c .before .match .rest .0 .0 .0 .0 .0 .0 .0 .0 .1), ne-eqb _ _ (c .before .match .rest .0 .0 .0 .0 .0 .0 .0 .1), ne-eqb _ _ (c .before .match .rest .0 .0 .0 .0 .0 .0 .1), ne-eqb _ _ (c .before .match .rest .0 .0 .0 .0 .0 .1), ne-eqb _ _ (c .before .match .rest .0 .0 .0 .0 .1), ne-eqb _ _ (c .before .match .rest .0 .0 .0 .1), ne-eqb _ _ (c .before .match .rest .0 .0 .1), ne-eqb _ _ (c .before .match .rest .0 .1), ne-eqb _ _ (c .before .match .rest .1))
+returns-11 c =
+    let r = c .before .match .rest in
+    simp (c .refuse .ensures, ne-eqb _ _ (r .0 .0 .0 .0 .0 .0 .0 .0 .0 .1), ne-eqb _ _ (r .0 .0 .0 .0 .0 .0 .0 .0 .1), ne-eqb _ _ (r .0 .0 .0 .0 .0 .0 .0 .1), ne-eqb _ _ (r .0 .0 .0 .0 .0 .0 .1), ne-eqb _ _ (r .0 .0 .0 .0 .0 .1), ne-eqb _ _ (r .0 .0 .0 .0 .1), ne-eqb _ _ (r .0 .0 .0 .1), ne-eqb _ _ (r .0 .0 .1), ne-eqb _ _ (r .0 .1), ne-eqb _ _ (r .1))
 
 pub read-down-spec : {M : Type 1} → statement M
 read-down-spec =

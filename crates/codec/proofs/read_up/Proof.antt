@@ -1,8 +1,9 @@
 use borrow.Author.Tests.{ne-eqb}
-use mathlib.Core.Path.{sym, _∙_}
+use mathlib.Core.Path.{_≡_, sym, _∙_}
 use Rattle.protocol.specs.declared.Way.the-variants.{Up}
-use Rattle.protocol.specs.Types.{types}
-use Rattle.protocol.specs.Decode.{decodeWay}
+use Rattle.protocol.specs.Types.{types, hubProperties}
+use Rattle.protocol.specs.Answer.{answerOf}
+use Rattle.protocol.specs.Decode.{decodeType, decodeWay}
 use Rattle.protocol.proofs.Selection.{typed, long-enough}
 use borrow.Author.Needs.{needs}
 use Rattle.codec.proofs.read_up.Statement.{statement}
@@ -46,7 +47,10 @@ refuse-requires c κs = search needs
 
 returns : tie.Need-returns
 unfolding types
-returns c = c .hub-properties .ensures ∙ sym (typed Up _ 1 (c .before .match .keys1))
+returns c =
+    let s = c .before .before .before .before .args .s .now in
+    let up : answerOf (c .hub-properties .result) ≡ decodeType (hubProperties Up) s = c .hub-properties .ensures in
+    up ∙ sym (typed Up s 1 (c .before .match .keys1))
 
 returns-2 : tie.Need-returns-2
 unfolding types
@@ -62,11 +66,15 @@ returns-4 c = c .hub-attached-io .ensures ∙ sym (typed Up _ 4 (c .before .matc
 
 returns-5 : tie.Need-returns-5
 unfolding types
-returns-5 c = c .generic-error .ensures ∙ sym (typed Up _ 5 (c .before .match .keys5) ∙ long-enough _ _ (c .before .before .before .before .pre))
+returns-5 c =
+    let c1 = c .before .before .before .before in
+    c .generic-error .ensures ∙ sym (typed Up _ 5 (c .before .match .keys5) ∙ long-enough _ _ (c1 .pre))
 
 returns-6 : tie.Need-returns-6
 unfolding types
-returns-6 c = c .lock-status .ensures ∙ sym (typed Up _ 19 (c .before .match .keys6) ∙ long-enough _ _ (c .before .before .before .before .pre))
+returns-6 c =
+    let c1 = c .before .before .before .before in
+    c .lock-status .ensures ∙ sym (typed Up _ 19 (c .before .match .keys6) ∙ long-enough _ _ (c1 .pre))
 
 returns-7 : tie.Need-returns-7
 unfolding types
@@ -78,15 +86,21 @@ returns-8 c = c .port-mode-information .ensures ∙ sym (typed Up _ 68 (c .befor
 
 returns-9 : tie.Need-returns-9
 unfolding types
-returns-9 c = c .port-value .ensures ∙ sym (typed Up _ 69 (c .before .match .keys9) ∙ long-enough _ _ (c .before .before .before .before .pre))
+returns-9 c =
+    let c1 = c .before .before .before .before in
+    c .port-value .ensures ∙ sym (typed Up _ 69 (c .before .match .keys9) ∙ long-enough _ _ (c1 .pre))
 
 returns-10 : tie.Need-returns-10
 unfolding types
-returns-10 c = c .input-format .ensures ∙ sym (typed Up _ 71 (c .before .match .keys10) ∙ long-enough _ _ (c .before .before .before .before .pre))
+returns-10 c =
+    let c1 = c .before .before .before .before in
+    c .input-format .ensures ∙ sym (typed Up _ 71 (c .before .match .keys10) ∙ long-enough _ _ (c1 .pre))
 
 returns-11 : tie.Need-returns-11
 unfolding decodeWay types
-returns-11 c = simp (c .refuse .ensures, ne-eqb _ _ (c .before .match .rest .0 .0 .0 .0 .0 .0 .0 .0 .0 .1), ne-eqb _ _ (c .before .match .rest .0 .0 .0 .0 .0 .0 .0 .0 .1), ne-eqb _ _ (c .before .match .rest .0 .0 .0 .0 .0 .0 .0 .1), ne-eqb _ _ (c .before .match .rest .0 .0 .0 .0 .0 .0 .1), ne-eqb _ _ (c .before .match .rest .0 .0 .0 .0 .0 .1), ne-eqb _ _ (c .before .match .rest .0 .0 .0 .0 .1), ne-eqb _ _ (c .before .match .rest .0 .0 .0 .1), ne-eqb _ _ (c .before .match .rest .0 .0 .1), ne-eqb _ _ (c .before .match .rest .0 .1), ne-eqb _ _ (c .before .match .rest .1))
+returns-11 c =
+    let r = c .before .match .rest in
+    simp (c .refuse .ensures, ne-eqb _ _ (r .0 .0 .0 .0 .0 .0 .0 .0 .0 .1), ne-eqb _ _ (r .0 .0 .0 .0 .0 .0 .0 .0 .1), ne-eqb _ _ (r .0 .0 .0 .0 .0 .0 .0 .1), ne-eqb _ _ (r .0 .0 .0 .0 .0 .0 .1), ne-eqb _ _ (r .0 .0 .0 .0 .0 .1), ne-eqb _ _ (r .0 .0 .0 .0 .1), ne-eqb _ _ (r .0 .0 .0 .1), ne-eqb _ _ (r .0 .0 .1), ne-eqb _ _ (r .0 .1), ne-eqb _ _ (r .1))
 
 pub read-up-spec : {M : Type 1} → statement M
 read-up-spec =

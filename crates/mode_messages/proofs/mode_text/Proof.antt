@@ -1,0 +1,68 @@
+use borrow.Author.Tests.{le-leb, lt-leb}
+use Rattle.protocol.specs.Number.{littleEndian}
+use Rattle.protocol.specs.Form.{layout}
+use Rattle.protocol.specs.Decode.{decodeForm}
+use borrow.Author.Needs.{needs}
+use Rattle.mode_messages.proofs.mode_text.Statement.{statement}
+use Rattle.mode_messages.proofs.mode_text.Tie as tie
+
+wrong-size-requires : tie.Need-wrong-size-requires
+wrong-size-requires c κs = search needs
+
+returns : tie.Need-returns
+unfolding decodeForm layout littleEndian
+returns c = simp (c .wrong-size .ensures, lt-leb _ _ (c .before .if1 .taken))
+
+wrong-size-requires-2 : tie.Need-wrong-size-requires-2
+wrong-size-requires-2 c κs = search needs
+
+returns-2 : tie.Need-returns-2
+unfolding decodeForm layout littleEndian
+returns-2 c =
+    let c1 = c .before .before in
+    let c2 = c1 .before .before in
+    simp (c .wrong-size2 .ensures, lt-leb _ _ (c .before .if2 .taken), le-leb _ _ (c1 .if1 .left), ← c2 .pre)
+
+shared-slice-read-mode : tie.Need-shared-slice-read-mode
+shared-slice-read-mode c = search needs
+
+outside-requires : tie.Need-outside-requires
+outside-requires c κs = search needs
+
+returns-3 : tie.Need-returns-3
+unfolding decodeForm layout littleEndian
+returns-3 c =
+    let c1 = c .before .before .before in
+    let c2 = c1 .before in
+    let c3 = c2 .before .before in
+    simp (c .outside .ensures, lt-leb _ _ (c .before .if3 .taken), le-leb _ _ (c1 .if2 .left), le-leb _ _ (c2 .if1 .left), ← c3 .pre)
+
+shared-slice-read-t7 : tie.Need-shared-slice-read-t7
+shared-slice-read-t7 c = search needs
+
+shared-slice-read-t10 : tie.Need-shared-slice-read-t10
+shared-slice-read-t10 c = search needs
+
+returns-4 : tie.Need-returns-4
+unfolding decodeForm layout littleEndian
+returns-4 c =
+    let c1 = c .before .before in
+    let c2 = c1 .before .before in
+    let c3 = c2 .before in
+    let c4 = c3 .before .before in
+    simp (le-leb _ _ (c1 .if3 .left), le-leb _ _ (c2 .if2 .left), le-leb _ _ (c3 .if1 .left), ← c4 .pre)
+
+pub mode-text-spec : {M : Type 1} → statement M
+mode-text-spec =
+    tie.close
+    (tie.spec
+    wrong-size-requires
+    returns
+    wrong-size-requires-2
+    returns-2
+    shared-slice-read-mode
+    outside-requires
+    returns-3
+    shared-slice-read-t7
+    shared-slice-read-t10
+    returns-4)
