@@ -3,7 +3,7 @@
 // that fails is told there too, and nothing more is printed.
 use libc::STDIN_FILENO;
 use libc::STDOUT_FILENO;
-use log::totals::put_ending;
+use log_lines::totals::put_ending;
 use rules::layout::TABLE_SIZE;
 use table::block::Block;
 use table::empty;

@@ -18,7 +18,8 @@ use Rattle.log.specs.Record.{recordSize, entryOf, malformed, messageIn}
 use Rattle.log.specs.Line.{Line, recordLine, cellsAfterRecord, refusalOf, numbersOf}
 use Rattle.protocol.specs.Overwrite.{overwrite}
 use Rattle.log.specs.Cutting.{Run, worked, printed}
-use Rattle.log.specs.Block.{lineRoom, mostLines, goesOn, recordsIn, blockRecords}
+use Rattle.log.specs.Ending.{mostCount}
+use Rattle.log.specs.Block.{lineRoom, goesOn, recordsIn, blockRecords}
 use Rattle.protocol.proofs.Overwrite.{overwrite-nothing, overwrite-length, overwrite-then}
 use Rattle.log.proofs.OneMore.{nextRecord, nextLine, cells-next, lines-next, refused-next, text-next, takes-more, takes-none, run-next, printed-one}
 use Rattle.rules.specs.Answer.{Answer, refused, accepted}
@@ -40,18 +41,18 @@ fails-3 x y z w c d e = rw (c, d, e)
 pub decides-4 : (x y z w v : Bool) → x ≡ true → y ≡ true → z ≡ true → v ≡ w → v ≡ (x && y && z && w)
 decides-4 x y z w v b c d e = rw (b, c, d) e
 
-pub is-most : (n : ℕ) → n ≡ mostLines → ltb n mostLines ≡ false
-is-most n e = le-ltb n mostLines (omega arith)
+pub is-most : (n : ℕ) → n ≡ mostCount → ltb n mostCount ≡ false
+is-most n e = le-ltb n mostCount (omega arith)
 
-pub not-most : (n : ℕ) → n < suc mostLines → (n ≡ mostLines → ⊥) → ltb n mostLines ≡ true
-not-most n h e = lt-ltb n mostLines (omega arith)
+pub not-most : (n : ℕ) → n < suc mostCount → (n ≡ mostCount → ⊥) → ltb n mostCount ≡ true
+not-most n h e = lt-ltb n mostCount (omega arith)
 
-pub by-most : (n : ℕ) → n < suc mostLines → not (eqb n mostLines) ≡ ltb n mostLines
+pub by-most : (n : ℕ) → n < suc mostCount → not (eqb n mostCount) ≡ ltb n mostCount
 by-most n h =
     ⊎-elim
-    (λ (x : eqb n mostLines ≡ true). ap not x ∙ sym (is-most n (eqb-true n mostLines x)))
-    (λ (x : eqb n mostLines ≡ false). ap not x ∙ sym (not-most n h (eqb-false n mostLines x)))
-    (which (eqb n mostLines))
+    (λ (x : eqb n mostCount ≡ true). ap not x ∙ sym (is-most n (eqb-true n mostCount x)))
+    (λ (x : eqb n mostCount ≡ false). ap not x ∙ sym (not-most n h (eqb-false n mostCount x)))
+    (which (eqb n mostCount))
 
 -- ---- the records that were worked through
 
@@ -105,15 +106,15 @@ module _ (r : Run) (out₀ table out : List ℕ) (taken written count bad : ℕ)
   rest-size : length (run .rest) ≡ length (r .rest) - taken
   rest-size = ap length rest-is ∙ length-drop taken (r .rest)
 
-  pub goes-as : (leb (recordSize 128) (length (r .rest) - taken) && leb lineRoom (length out - written) && ltb count mostLines && ltb bad mostLines) ≡ goesOn 128 run (length out₀ - written)
-  goes-as = λ i. leb (recordSize 128) (sym rest-size i) && leb lineRoom (same-size i - written) && ltb (k .lines i) mostLines && ltb (k .refused i) mostLines
+  pub goes-as : (leb (recordSize 128) (length (r .rest) - taken) && leb lineRoom (length out - written) && ltb count mostCount && ltb bad mostCount) ≡ goesOn 128 run (length out₀ - written)
+  goes-as = λ i. leb (recordSize 128) (sym rest-size i) && leb lineRoom (same-size i - written) && ltb (k .lines i) mostCount && ltb (k .refused i) mostCount
 
-  module _ (again : (leb (recordSize 128) (length (r .rest) - taken) && leb lineRoom (length out - written) && ltb count mostLines && ltb bad mostLines) ≡ true) where
-    tests : (leb (recordSize 128) (length (r .rest) - taken) ≡ true) × (leb lineRoom (length out - written) ≡ true) × (ltb count mostLines ≡ true) × (ltb bad mostLines ≡ true)
+  module _ (again : (leb (recordSize 128) (length (r .rest) - taken) && leb lineRoom (length out - written) && ltb count mostCount && ltb bad mostCount) ≡ true) where
+    tests : (leb (recordSize 128) (length (r .rest) - taken) ≡ true) × (leb lineRoom (length out - written) ≡ true) × (ltb count mostCount ≡ true) × (ltb bad mostCount ≡ true)
     tests =
-        let front = and-left (leb (recordSize 128) (length (r .rest) - taken) && leb lineRoom (length out - written) && ltb count mostLines) (ltb bad mostLines) again in
-        let two = and-left (leb (recordSize 128) (length (r .rest) - taken) && leb lineRoom (length out - written)) (ltb count mostLines) front in
-        (and-left (leb (recordSize 128) (length (r .rest) - taken)) (leb lineRoom (length out - written)) two, and-right (leb (recordSize 128) (length (r .rest) - taken)) (leb lineRoom (length out - written)) two, and-right (leb (recordSize 128) (length (r .rest) - taken) && leb lineRoom (length out - written)) (ltb count mostLines) front, and-right (leb (recordSize 128) (length (r .rest) - taken) && leb lineRoom (length out - written) && ltb count mostLines) (ltb bad mostLines) again)
+        let front = and-left (leb (recordSize 128) (length (r .rest) - taken) && leb lineRoom (length out - written) && ltb count mostCount) (ltb bad mostCount) again in
+        let two = and-left (leb (recordSize 128) (length (r .rest) - taken) && leb lineRoom (length out - written)) (ltb count mostCount) front in
+        (and-left (leb (recordSize 128) (length (r .rest) - taken)) (leb lineRoom (length out - written)) two, and-right (leb (recordSize 128) (length (r .rest) - taken)) (leb lineRoom (length out - written)) two, and-right (leb (recordSize 128) (length (r .rest) - taken) && leb lineRoom (length out - written)) (ltb count mostCount) front, and-right (leb (recordSize 128) (length (r .rest) - taken) && leb lineRoom (length out - written) && ltb count mostCount) (ltb bad mostCount) again)
 
     pub record-there : taken + recordSize 128 ≤ length (r .rest)
     record-there = let h : recordSize 128 ≤ length (r .rest) - taken = leb-true (recordSize 128) (length (r .rest) - taken) (tests .0) in omega arith
@@ -121,11 +122,11 @@ module _ (r : Run) (out₀ table out : List ℕ) (taken written count bad : ℕ)
     pub room-there : written + lineRoom ≤ length out
     room-there = let h : lineRoom ≤ length out - written = leb-true lineRoom (length out - written) (tests .1) in omega arith
 
-    pub count-fits : count < mostLines
-    count-fits = ltb-true count mostLines (tests .2)
+    pub count-fits : count < mostCount
+    count-fits = ltb-true count mostCount (tests .2)
 
-    pub bad-fits : bad < mostLines
-    bad-fits = ltb-true bad mostLines (tests .3)
+    pub bad-fits : bad < mostCount
+    bad-fits = ltb-true bad mostCount (tests .3)
 
     -- the next record
     pub record-is : take (recordSize 128) (drop taken (r .rest)) ≡ nextRecord 128 r (k .through)
@@ -170,7 +171,7 @@ module _ (r : Run) (out₀ table out : List ℕ) (taken written count bad : ℕ)
         }
 
   -- at the end
-  pub all-done : (leb (recordSize 128) (length (r .rest) - taken) && leb lineRoom (length out - written) && ltb count mostLines && ltb bad mostLines) ≡ false → k .through ≡ blockRecords 128 r (length out₀)
+  pub all-done : (leb (recordSize 128) (length (r .rest) - taken) && leb lineRoom (length out - written) && ltb count mostCount && ltb bad mostCount) ≡ false → k .through ≡ blockRecords 128 r (length out₀)
   all-done stops =
       let none-more : recordsIn 128 (length (r .rest) - k .through) run (length out₀ - written) ≡ 0 = takes-none 128 run (length (r .rest) - k .through) (length out₀ - written) (sym goes-as ∙ stops) in
       omega (arith, k .left, none-more)
@@ -178,7 +179,7 @@ module _ (r : Run) (out₀ table out : List ℕ) (taken written count bad : ℕ)
   abbrev total : ℕ
   total = blockRecords 128 r (length out₀)
 
-  pub finished : (leb (recordSize 128) (length (r .rest) - taken) && leb lineRoom (length out - written) && ltb count mostLines && ltb bad mostLines) ≡ false
+  pub finished : (leb (recordSize 128) (length (r .rest) - taken) && leb lineRoom (length out - written) && ltb count mostCount && ltb bad mostCount) ≡ false
       → (record { taken = taken; written = written; lines = count; refused = bad } ≡ progress 128 r total) × (table ≡ worked 128 total r .cells) × (out ≡ overwrite out₀ 0 (printed 128 total r)) × ((taken ≤ length (r .rest)) × (written ≤ length out₀))
   finished stops =
       let is : k .through ≡ total = all-done stops in
