@@ -1,11 +1,9 @@
 pub mod Blocks
 pub mod Changes
 pub mod Lifts
-pub mod Lines
 pub mod LogBlocks
 pub mod LogLines
 pub mod Lookups
-pub mod Numbers
 pub mod Offers
 pub mod Queries
 pub mod Records

@@ -9,12 +9,14 @@ use borrow.Author.Tests.{lt-ltb, le-ltb, eqb-true, eqb-false, leb-true, ltb-true
 use lib.Dec.{eqb, leb, ltb}
 use lib.ListN.{length, getD, take, drop, length-append, length-take, length-drop, List·getD-eq-default}
 use lib.Seq.{getD-take, getD-drop}
+use Rattle.protocol.specs.Number.{Bytes}
+use Rattle.protocol.proofs.Bytes.{Bytes-take, Bytes-drop}
 use Rattle.protocol.proofs.Tests.{which, and-left, and-right}
 use Rattle.rules.specs.Cells.{sound}
 use Rattle.rules.specs.Offer.{cellsAfter}
 use Rattle.rules.proofs.Laws.{step-keeps-sound}
 use Rattle.log.specs.Decimal.{lineText}
-use Rattle.log.specs.Record.{recordSize, entryOf, malformed, messageIn}
+use Rattle.log.specs.Record.{front, recordSize, entryOf, malformed, messageSize, messageIn}
 use Rattle.log.specs.Line.{Line, recordLine, cellsAfterRecord, refusalOf, numbersOf}
 use Rattle.protocol.specs.Overwrite.{overwrite}
 use Rattle.log.specs.Cutting.{Run, worked, printed}
@@ -22,10 +24,10 @@ use Rattle.log.specs.Ending.{mostCount}
 use Rattle.log.specs.Block.{lineRoom, goesOn, recordsIn, blockRecords}
 use Rattle.protocol.proofs.Overwrite.{overwrite-nothing, overwrite-length, overwrite-then}
 use Rattle.log.proofs.OneMore.{nextRecord, nextLine, cells-next, lines-next, refused-next, text-next, takes-more, takes-none, run-next, printed-one}
-use Rattle.rules.specs.Answer.{Answer, refused, accepted}
-use Rattle.table.specs.BlockAnswer.{Progress, progress, blockAnswer, blockCells, blockText}
-use Rattle.table.specs.LogLine.{PrintedAs}
-use Rattle.table.proofs.LogLines.{message-bytes}
+use Rattle.rules.specs.Answer.{refused, accepted}
+use Rattle.table.specs.BlockAnswer.{progress, blockAnswer, blockCells, blockText}
+use Rattle.log_lines.specs.LogLine.{PrintedAs}
+use Rattle.log_lines.proofs.ValueLines.{all-bytes}
 
 -- ---- four tests in a row
 
@@ -185,6 +187,11 @@ module _ (r : Run) (out₀ table out : List ℕ) (taken written count bad : ℕ)
       let is : k .through ≡ total = all-done stops in
       ((λ i. record { taken = k .took i; written = k .ends i; lines = k .lines i; refused = k .refused i }) ∙ ap (progress 128 r) is, k .cells ∙ ap (λ (n : ℕ). worked 128 n r .cells) is, k .text ∙ ap (λ (n : ℕ). overwrite out₀ 0 (printed 128 n r)) is, (k .there, k .room))
 
+-- the bytes of a record's message are bytes
+message-bytes : (s : List ℕ) → ((k : ℕ) → getD s k 0 < 256) → Bytes (messageIn 128 s)
+unfolding messageIn
+message-bytes s h = Bytes-take (messageSize 128 s) (drop front s) (Bytes-drop front s (all-bytes s h))
+
 -- every record keeps a sound table sound
 pub record-keeps-sound : (cells s : List ℕ) → ((n : ℕ) → getD s n 0 < 256) → sound cells ≡ true → sound (cellsAfterRecord 128 cells s) ≡ true
 unfolding cellsAfterRecord
@@ -192,7 +199,7 @@ record-keeps-sound cells s bytes good = go (malformed 128 s)
   where
     go : (b : Bool) → sound (cond b cells (cellsAfter cells (entryOf 128 s))) ≡ true
     go true = good
-    go false = step-keeps-sound cells (entryOf 128 s) (message-bytes s (messageIn 128 s) refl bytes) good
+    go false = step-keeps-sound cells (entryOf 128 s) (message-bytes s bytes) good
 
 -- a part of bytes is bytes
 pub part-bytes : (s : List ℕ) (from size n : ℕ) → ((k : ℕ) → getD s k 0 < 256) → getD (take size (drop from s)) n 0 < 256

@@ -2,13 +2,13 @@
 use Prim.Native.Nat.{ℕ, zero, suc, _+_, _*_, _-_, _≤_, _<_}
 use native.Mathlib.Omega.{arith}
 use mathlib.Core.Path.{_≡_, refl, sym, _∙_, ap}
-use mathlib.Core.Bool.{true, _&&_, not}
+use mathlib.Core.Bool.{true, not}
 use mathlib.Core.List.{List}
 use mathlib.Core.Option.{Option, none, some}
-use borrow.Author.Tests.{ne-eqb, leb-true, ltb-true}
-use lib.Dec.{leb, ltb, eqb}
+use borrow.Author.Tests.{ne-eqb, ltb-true}
+use lib.Dec.{ltb, eqb}
 use lib.ListN.{getD}
-use Rattle.protocol.proofs.Tests.{and-left, and-right}
+use Rattle.protocol.proofs.Tests.{and-left}
 use Rattle.rules.specs.Facts.{Facts, View}
 use Rattle.rules.specs.declared.Setup.{Setup}
 use Rattle.rules.specs.declared.Wiring.{Wiring}
@@ -24,7 +24,7 @@ use Rattle.rules.proofs.Laws.{table-sound}
 use Rattle.rules.proofs.Sound.{wiring?, wiring-fits}
 use Rattle.soundness.specs.Place.{cellOf, factsAt, wiringHere}
 use Rattle.table.specs.FormatAnswer.{formatFrom, formatByCells}
-use Rattle.table.specs.PortAnswer.{PortFacts, portFacts, portByCells}
+use Rattle.table.specs.PortAnswer.{portFacts, portByCells}
 use Rattle.table.proofs.Records.{here, some-at, device-at, wiring-at, asked-at, answered-at, state-at, format-at, fit, settings-listed}
 
 -- ---- a sound table is not refused

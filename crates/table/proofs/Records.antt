@@ -1,23 +1,21 @@
 -- The record at a place, by its cells.
-use Prim.Native.Nat.{ℕ, zero, suc, _+_, _*_, _≤_, _<_}
+use Prim.Native.Nat.{ℕ, _+_, _<_}
 use native.Mathlib.Omega.{arith}
 use mathlib.Core.Path.{_≡_, refl, sym, _∙_, ap}
 use mathlib.Core.Bool.{Bool, true, false, cond, _&&_}
 use mathlib.Core.List.{List}
-use mathlib.Core.Option.{Option, none, some}
+use mathlib.Core.Option.{none, some}
 use mathlib.Core.Logic.{_⊎_, inl, inr}
-use borrow.Author.Tests.{eq-eqb, ne-eqb, lt-ltb, leb-true, ltb-true}
-use lib.Dec.{eqb, leb, ltb}
+use borrow.Author.Tests.{ne-eqb, lt-ltb, ltb-true}
+use lib.Dec.{eqb, ltb}
 use lib.ListN.{getD, drop}
 use lib.Seq.{getD-take, getD-drop}
-use Rattle.protocol.proofs.Tests.{and-left, and-right}
 use Rattle.rules.specs.Layout.{places, modeCount, stride, wiringIndex, deviceIndex, firstIndex, secondIndex, stateIndex, askedIndex, answeredIndex, formatsIndex}
 use Rattle.rules.specs.Facts.{Facts, isUnjoined, isVirtual, known}
 use Rattle.rules.specs.declared.Effect.{Effect}
 use Rattle.rules.specs.declared.Wiring.{Wiring}
 use Rattle.rules.specs.declared.Wiring.the-variants.{Unjoined, Joined, Virtual}
 use Rattle.rules.specs.Judge.{presentUnjoined, judgeDisconnect}
-use Rattle.rules.specs.WellFormed.{setupFits, settingsFit}
 use Rattle.rules.specs.Cells.{formatAt, setupAt, wiringAt, recordAt, sound}
 use Rattle.rules.specs.Offer.{viewOfCells}
 use Rattle.rules.proofs.SettingsFit.{Listed, listed}

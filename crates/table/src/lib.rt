@@ -1,18 +1,15 @@
 // The port table of one hub in `TABLE_SIZE` cells that the caller lends, and values read by it. Any other
 // slice of cells is refused with 9, and stays as it is.
 pub mod block;
-pub mod datasets;
+mod datasets;
 mod judge;
-mod line;
 mod lookup;
-mod number;
 pub mod offering;
 pub mod query;
 mod step;
 
 use crate::block::Block;
 use crate::block::block_sound;
-use crate::datasets::Dataset;
 use crate::datasets::dataset_sound;
 use crate::offering::Outcome;
 use crate::offering::offer_sound;
@@ -24,13 +21,14 @@ use crate::step::clear;
 use protocol::Way;
 use rules::layout::TABLE_SIZE;
 use soundness::is_sound;
+use values::datasets::Dataset;
 ghost use mathlib.Core.Path.{_≡_};
 ghost use lib.ListN.{length};
 ghost use Rattle.rules.specs.Answer.{outcome};
 ghost use Rattle.rules.specs.Offer.{cellsAfter, datasetByCells, offerByCells};
 ghost use Rattle.table.specs.BlockAnswer.{blockAnswer, blockCells, blockFits, blockText, runOf};
 ghost use Rattle.table.specs.BlockAnswer as BlockAnswer;
-ghost use Rattle.table.specs.DatasetAnswer as DatasetAnswer;
+ghost use Rattle.values.specs.DatasetAnswer as DatasetAnswer;
 ghost use Rattle.table.specs.FormatAnswer.{formatByCells};
 ghost use Rattle.table.specs.FormatAnswer as FormatAnswer;
 ghost use Rattle.table.specs.OfferAnswer.{emptied, emptyAnswer};

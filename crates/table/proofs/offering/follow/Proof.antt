@@ -1,8 +1,8 @@
-use mathlib.Core.Path.{_≡_, refl, sym, _∙_, ap}
+use mathlib.Core.Path.{sym, _∙_}
 use borrow.Author.Needs.{needs}
 use Rattle.rules.proofs.CellsSound.{sound-length}
-use Rattle.table.proofs.Offers.{tell-ready, change-ready, attach-ready, virtual-ready, detach-ready, changed-as, unchanged, refused-by, accepted-by, offered-message, offered-unread, cells-by, fits-by, all-bytes}
-use Rattle.table.proofs.Steps.{found-at, present-below, detach-pair, detach-virtual, detach-unjoined, partner-virtual, detach-joined, first-known, second-known, dissolve-is, clear-is, empty-is}
+use Rattle.table.proofs.Offers.{tell-ready, change-ready, attach-ready, virtual-ready, detach-ready, changed-as, unchanged}
+use Rattle.table.proofs.Steps.{empty-is}
 use Rattle.table.proofs.offering.follow.Statement.{statement}
 use Rattle.table.proofs.offering.follow.Tie as tie
 

@@ -1,14 +1,14 @@
 use native.Mathlib.Omega.{arith}
 use mathlib.Core.Option.{Option}
-use mathlib.Core.Path.{_≡_, refl, sym, _∙_, ap, subst}
+use mathlib.Core.Path.{sym, _∙_, ap}
 use borrow.Author.Needs.{needs}
 use Rattle.rules.proofs.CellsSound.{sound-length}
-use Rattle.rules.specs.Answer.{Answer, accepted}
+use Rattle.rules.specs.Answer.{accepted}
 use Rattle.rules.specs.Facts.{Facts}
 use Rattle.rules.specs.declared.Format.{Format}
 use Rattle.soundness.proofs.Places.{found, nowhere}
-use Rattle.soundness.specs.Place.{factsAt, cellOf}
-use Rattle.table.proofs.Queries.{port-sound, format-sound, setup-some, wiring-unjoined, wiring-joined, wiring-virtual, partners-small, answered-fits, asked-fits, port-at, no-format, the-format}
+use Rattle.soundness.specs.Place.{factsAt}
+use Rattle.table.proofs.Queries.{format-sound, no-format, the-format}
 use Rattle.table.specs.FormatAnswer.{formatFrom}
 use Rattle.table.proofs.query.format_of.Statement.{statement}
 use Rattle.table.proofs.query.format_of.Tie as tie

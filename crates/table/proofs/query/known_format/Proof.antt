@@ -1,9 +1,9 @@
 use mathlib.Core.Option.{Option, some}
-use mathlib.Core.Path.{_≡_, refl, sym, _∙_, ap, subst}
+use mathlib.Core.Path.{sym, _∙_, ap}
 use borrow.Author.Needs.{needs}
-use Rattle.rules.specs.Answer.{Answer, accepted}
+use Rattle.rules.specs.Answer.{accepted}
 use Rattle.rules.specs.declared.Format.{Format}
-use Rattle.table.proofs.Lookups.{small-setup, state-small, mode-small, format-listed, lookup-10, lookup-14, lookup-15, lookup-found, format-none, format-some, positive}
+use Rattle.table.proofs.Lookups.{format-none, format-some}
 use Rattle.table.proofs.query.known_format.Statement.{statement}
 use Rattle.table.proofs.query.known_format.Tie as tie
 

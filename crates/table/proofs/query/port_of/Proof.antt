@@ -2,15 +2,15 @@ use Prim.Native.Nat.{_<_}
 use Rattle.rules.specs.Layout.{places}
 use native.Mathlib.Omega.{arith}
 use mathlib.Core.Option.{Option}
-use mathlib.Core.Path.{_≡_, refl, sym, _∙_, ap, subst}
+use mathlib.Core.Path.{refl, sym, _∙_, ap}
 use borrow.Author.Needs.{needs}
 use Rattle.rules.proofs.CellsSound.{sound-length}
-use Rattle.rules.specs.Answer.{Answer, accepted}
+use Rattle.rules.specs.Answer.{accepted}
 use Rattle.rules.specs.Facts.{Facts}
 use Rattle.soundness.proofs.Places.{found, nowhere}
-use Rattle.soundness.specs.Place.{factsAt, cellOf}
-use Rattle.table.proofs.Lookups.{small-setup, state-small, mode-small, format-listed, lookup-10, lookup-14, lookup-15, lookup-found, format-none, format-some, positive}
-use Rattle.table.proofs.Queries.{port-sound, format-sound, setup-some, wiring-unjoined, wiring-joined, wiring-virtual, partners-small, answered-fits, asked-fits, port-at, no-format, the-format}
+use Rattle.soundness.specs.Place.{factsAt}
+use Rattle.table.proofs.Lookups.{state-small}
+use Rattle.table.proofs.Queries.{port-sound, partners-small, answered-fits, asked-fits, port-at}
 use Rattle.table.proofs.Records.{device-small}
 use Rattle.table.specs.PortAnswer.{PortFacts, portFacts}
 use Rattle.table.proofs.query.port_of.Statement.{statement}

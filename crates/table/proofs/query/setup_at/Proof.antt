@@ -1,11 +1,11 @@
-use Prim.Native.Nat.{ℕ, _+_, _*_, _-_, _≤_, _<_}
+use Prim.Native.Nat.{ℕ, _+_, _-_}
 use native.Mathlib.Omega.{arith}
-use mathlib.Core.Path.{_≡_, refl, sym, _∙_, ap, subst}
+use mathlib.Core.Path.{sym, ap}
 use borrow.Author.Needs.{needs}
-use lib.ListN.{length, getD}
-use Rattle.rules.specs.Cells.{setupAt, firstPartner, secondPartner, formatBytes}
-use Rattle.table.proofs.Lookups.{small-setup, state-small, mode-small, format-listed, lookup-10, lookup-14, lookup-15, lookup-found, format-none, format-some, positive}
-use Rattle.table.proofs.Queries.{port-sound, format-sound, setup-some, wiring-unjoined, wiring-joined, wiring-virtual, partners-small, answered-fits, asked-fits, port-at, no-format, the-format}
+use lib.ListN.{getD}
+use Rattle.rules.specs.Cells.{setupAt}
+use Rattle.table.proofs.Lookups.{small-setup}
+use Rattle.table.proofs.Queries.{setup-some}
 use Rattle.table.proofs.query.setup_at.Statement.{statement}
 use Rattle.table.proofs.query.setup_at.Tie as tie
 

@@ -1,12 +1,12 @@
-use Prim.Native.Nat.{ℕ, _+_, _*_, _-_, _≤_, _<_}
+use Prim.Native.Nat.{_-_, _<_}
 use native.Mathlib.Omega.{arith}
-use mathlib.Core.Path.{_≡_, refl, sym, _∙_, ap, subst}
+use mathlib.Core.Path.{sym, subst}
 use borrow.Author.Needs.{needs}
-use Rattle.rules.specs.Cells.{setupAt, firstPartner, secondPartner, formatBytes}
-use Rattle.rules.specs.Layout.{portCount, stride, wiringIndex, firstIndex, secondIndex, answeredIndex, stateIndex, formatsIndex}
+use Rattle.rules.specs.Cells.{firstPartner, secondPartner}
+use Rattle.rules.specs.Layout.{portCount, wiringIndex, firstIndex, secondIndex}
 use Rattle.rules.specs.declared.Wiring.{Wiring}
-use Rattle.soundness.specs.Place.{factsAt, cellOf}
-use Rattle.table.proofs.Queries.{port-sound, format-sound, setup-some, wiring-unjoined, wiring-joined, wiring-virtual, partners-small, answered-fits, asked-fits, port-at, no-format, the-format}
+use Rattle.soundness.specs.Place.{cellOf}
+use Rattle.table.proofs.Queries.{wiring-unjoined, wiring-joined, wiring-virtual}
 use Rattle.table.proofs.query.wiring_at.Statement.{statement}
 use Rattle.table.proofs.query.wiring_at.Tie as tie
 

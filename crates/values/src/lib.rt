@@ -1,0 +1,4 @@
+// What is read of a value's bytes by its format.
+pub mod datasets;
+pub mod number;
+pub mod size;
