@@ -1,12 +1,11 @@
 pub mod Blocks
 pub mod Changes
+pub mod Judging
 pub mod Lifts
 pub mod LogBlocks
 pub mod LogLines
 pub mod Lookups
 pub mod Offers
-pub mod Queries
-pub mod Records
 pub mod States
 pub mod Steps
 pub mod Stores

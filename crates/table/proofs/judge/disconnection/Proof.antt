@@ -7,7 +7,7 @@ use Rattle.rules.specs.Judge.{judgeDisconnect}
 use Rattle.rules.specs.Layout.{wiringIndex, firstIndex, secondIndex}
 use Rattle.soundness.proofs.Places.{found, nowhere}
 use Rattle.soundness.specs.Place.{factsAt, cellOf}
-use Rattle.table.proofs.Records.{disconnect-at, physical-kind, virtual-kind}
+use Rattle.table.proofs.Judging.{disconnect-at, physical-kind, virtual-kind}
 use Rattle.table.proofs.judge.disconnection.Statement.{statement}
 use Rattle.table.proofs.judge.disconnection.Tie as tie
 

@@ -4,7 +4,7 @@ use borrow.Author.Needs.{needs}
 use lib.Dec.{eqb}
 use Rattle.rules.specs.Judge.{presentUnjoined}
 use Rattle.rules.specs.Offer.{viewOfCells}
-use Rattle.table.proofs.Records.{first-fails, second-fails, third-decides}
+use Rattle.table.proofs.Judging.{first-fails, second-fails, third-decides}
 use Rattle.table.proofs.judge.is_pair.Statement.{statement}
 use Rattle.table.proofs.judge.is_pair.Tie as tie
 

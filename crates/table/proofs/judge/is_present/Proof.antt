@@ -2,7 +2,7 @@ use mathlib.Core.Path.{sym, _∙_, ap}
 use borrow.Author.Needs.{needs}
 use Rattle.rules.specs.Facts.{known}
 use Rattle.soundness.proofs.Places.{found}
-use Rattle.table.proofs.Records.{known-at}
+use Rattle.table.proofs.Judging.{known-at}
 use Rattle.table.proofs.judge.is_present.Statement.{statement}
 use Rattle.table.proofs.judge.is_present.Tie as tie
 

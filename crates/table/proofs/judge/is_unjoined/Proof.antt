@@ -4,7 +4,7 @@ use borrow.Author.Needs.{needs}
 use Rattle.rules.specs.Judge.{presentUnjoined}
 use Rattle.soundness.proofs.Places.{found, nowhere}
 use Rattle.soundness.specs.Place.{factsAt}
-use Rattle.table.proofs.Records.{unjoined-at}
+use Rattle.table.proofs.Judging.{unjoined-at}
 use Rattle.table.proofs.judge.is_unjoined.Statement.{statement}
 use Rattle.table.proofs.judge.is_unjoined.Tie as tie
 

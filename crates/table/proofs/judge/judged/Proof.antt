@@ -3,7 +3,7 @@ use borrow.Author.Needs.{needs}
 use Rattle.rules.proofs.CellsSound.{sound-length}
 use Rattle.rules.specs.Judge.{judge, judgeValue}
 use Rattle.rules.specs.declared.ValueLookup.{ValueLookup}
-use Rattle.table.proofs.Records.{by-case}
+use Rattle.table.proofs.Judging.{by-case}
 use Rattle.table.proofs.judge.judged.Statement.{statement}
 use Rattle.table.proofs.judge.judged.Tie as tie
 

@@ -4,7 +4,7 @@ use Rattle.rules.specs.Cells.{tableAt}
 use Rattle.rules.specs.Judge.{present, pairTest, refusalIfFull}
 use Rattle.rules.specs.Offer.{viewOfCells}
 use Rattle.rules.specs.Table.{fullTable}
-use Rattle.table.proofs.Records.{attached-11, attached-12, attached-13}
+use Rattle.table.proofs.Judging.{attached-11, attached-12, attached-13}
 use Rattle.table.proofs.judge.virtual_attachment.Statement.{statement}
 use Rattle.table.proofs.judge.virtual_attachment.Tie as tie
 

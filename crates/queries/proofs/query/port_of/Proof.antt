@@ -9,12 +9,12 @@ use Rattle.rules.specs.Answer.{accepted}
 use Rattle.rules.specs.Facts.{Facts}
 use Rattle.soundness.proofs.Places.{found, nowhere}
 use Rattle.soundness.specs.Place.{factsAt}
-use Rattle.table.proofs.Lookups.{state-small}
-use Rattle.table.proofs.Queries.{port-sound, partners-small, answered-fits, asked-fits, port-at}
-use Rattle.table.proofs.Records.{device-small}
-use Rattle.table.specs.PortAnswer.{PortFacts, portFacts}
-use Rattle.table.proofs.query.port_of.Statement.{statement}
-use Rattle.table.proofs.query.port_of.Tie as tie
+use Rattle.soundness.proofs.Bounds.{state-small}
+use Rattle.queries.proofs.Queries.{port-sound, partners-small, answered-fits, asked-fits, port-at}
+use Rattle.soundness.proofs.Records.{device-small}
+use Rattle.queries.specs.PortAnswer.{PortFacts, portFacts}
+use Rattle.queries.proofs.query.port_of.Statement.{statement}
+use Rattle.queries.proofs.query.port_of.Tie as tie
 
 find-requires : tie.Need-find-requires
 find-requires c κs = search needs

@@ -8,10 +8,10 @@ use Rattle.rules.specs.Facts.{Facts}
 use Rattle.rules.specs.declared.Format.{Format}
 use Rattle.soundness.proofs.Places.{found, nowhere}
 use Rattle.soundness.specs.Place.{factsAt}
-use Rattle.table.proofs.Queries.{format-sound, no-format, the-format}
-use Rattle.table.specs.FormatAnswer.{formatFrom}
-use Rattle.table.proofs.query.format_of.Statement.{statement}
-use Rattle.table.proofs.query.format_of.Tie as tie
+use Rattle.queries.proofs.Queries.{format-sound, no-format, the-format}
+use Rattle.queries.specs.FormatAnswer.{formatFrom}
+use Rattle.queries.proofs.query.format_of.Statement.{statement}
+use Rattle.queries.proofs.query.format_of.Tie as tie
 
 find-requires : tie.Need-find-requires
 find-requires c κs = search needs

@@ -10,10 +10,10 @@ use Rattle.rules.specs.Cells.{sound}
 use Rattle.rules.specs.Offer.{viewOfCells}
 use Rattle.rules.specs.declared.Setup.{Setup}
 use Rattle.rules.specs.declared.Wiring.{Wiring}
-use Rattle.table.specs.declared.query.LatestSetup.{LatestSetup}
-use Rattle.table.specs.declared.query.LatestSetup.the-variants.{Never, Latest}
-use Rattle.table.specs.declared.query.Port.{Port}
-use Rattle.table.specs.declared.query.Port.the-variants.{Absent, Present, Refused}
+use Rattle.queries.specs.declared.query.LatestSetup.{LatestSetup}
+use Rattle.queries.specs.declared.query.LatestSetup.the-variants.{Never, Latest}
+use Rattle.queries.specs.declared.query.Port.{Port}
+use Rattle.queries.specs.declared.query.Port.the-variants.{Absent, Present, Refused}
 
 pub record PortFacts : Type 0 where
   pub device : ℕ

@@ -1,8 +1,8 @@
 use mathlib.Core.Path.{sym, _∙_}
 use borrow.Author.Needs.{needs}
-use Rattle.table.proofs.Unsound.{format-9}
-use Rattle.table.proofs.format.Statement.{statement}
-use Rattle.table.proofs.format.Tie as tie
+use Rattle.queries.proofs.Queries.{format-9}
+use Rattle.queries.proofs.format.Statement.{statement}
+use Rattle.queries.proofs.format.Tie as tie
 
 is-sound-requires : tie.Need-is-sound-requires
 is-sound-requires c κs = search needs

@@ -9,8 +9,8 @@ use Rattle.rules.specs.Facts.{Facts}
 use Rattle.rules.specs.Cells.{sound}
 use Rattle.rules.specs.Offer.{viewOfCells}
 use Rattle.rules.specs.declared.Format.{Format}
-use Rattle.table.specs.declared.query.ModeFormat.{ModeFormat}
-use Rattle.table.specs.declared.query.ModeFormat.the-variants.{Unknown, Known, Refused}
+use Rattle.queries.specs.declared.query.ModeFormat.{ModeFormat}
+use Rattle.queries.specs.declared.query.ModeFormat.the-variants.{Unknown, Known, Refused}
 
 abbrev pub formatFrom : Option Facts → ℕ → Option Format
 formatFrom none mode = none

@@ -3,9 +3,9 @@ use mathlib.Core.Path.{sym, _∙_, ap}
 use borrow.Author.Needs.{needs}
 use Rattle.rules.specs.Answer.{accepted}
 use Rattle.rules.specs.declared.Format.{Format}
-use Rattle.table.proofs.Lookups.{format-none, format-some}
-use Rattle.table.proofs.query.known_format.Statement.{statement}
-use Rattle.table.proofs.query.known_format.Tie as tie
+use Rattle.soundness.proofs.Bounds.{format-none, format-some}
+use Rattle.queries.proofs.query.known_format.Statement.{statement}
+use Rattle.queries.proofs.query.known_format.Tie as tie
 
 returns : tie.Need-returns
 returns c = sym (ap (λ (f : Option Format). accepted f) (format-none (c .before .args .cell) (c .if1 .taken)))

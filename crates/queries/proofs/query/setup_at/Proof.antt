@@ -4,10 +4,10 @@ use mathlib.Core.Path.{sym, ap}
 use borrow.Author.Needs.{needs}
 use lib.ListN.{getD}
 use Rattle.rules.specs.Cells.{setupAt}
-use Rattle.table.proofs.Lookups.{small-setup}
-use Rattle.table.proofs.Queries.{setup-some}
-use Rattle.table.proofs.query.setup_at.Statement.{statement}
-use Rattle.table.proofs.query.setup_at.Tie as tie
+use Rattle.soundness.proofs.Bounds.{small-setup}
+use Rattle.queries.proofs.Queries.{setup-some}
+use Rattle.queries.proofs.query.setup_at.Statement.{statement}
+use Rattle.queries.proofs.query.setup_at.Tie as tie
 
 mul-mode : tie.Need-mul-mode
 mul-mode c = search needs

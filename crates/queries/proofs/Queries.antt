@@ -2,7 +2,7 @@
 use Prim.Native.Nat.{ℕ, zero, suc, _+_, _*_, _-_, _≤_, _<_}
 use native.Mathlib.Omega.{arith}
 use mathlib.Core.Path.{_≡_, refl, sym, _∙_, ap}
-use mathlib.Core.Bool.{true, not}
+use mathlib.Core.Bool.{true, false, not}
 use mathlib.Core.List.{List}
 use mathlib.Core.Option.{Option, none, some}
 use borrow.Author.Tests.{ne-eqb, ltb-true}
@@ -13,7 +13,7 @@ use Rattle.rules.specs.Facts.{Facts, View}
 use Rattle.rules.specs.declared.Setup.{Setup}
 use Rattle.rules.specs.declared.Wiring.{Wiring}
 use Rattle.rules.specs.declared.Wiring.the-variants.{Unjoined, Joined, Virtual}
-use Rattle.rules.specs.Answer.{accepted}
+use Rattle.rules.specs.Answer.{refused, accepted}
 use Rattle.rules.specs.Layout.{portCount, modeCount, places, stride, deviceIndex, stateIndex, askedIndex, answeredIndex, formatsIndex}
 use Rattle.rules.specs.Table.{viewOfTable}
 use Rattle.rules.specs.WellFormed.{setupFits, isJoinedTo, isPairWith, wiringFits}
@@ -23,9 +23,9 @@ use Rattle.rules.proofs.CellsRecord.{five-passed}
 use Rattle.rules.proofs.Laws.{table-sound}
 use Rattle.rules.proofs.Sound.{wiring?, wiring-fits}
 use Rattle.soundness.specs.Place.{cellOf, factsAt, wiringHere}
-use Rattle.table.specs.FormatAnswer.{formatFrom, formatByCells}
-use Rattle.table.specs.PortAnswer.{portFacts, portByCells}
-use Rattle.table.proofs.Records.{here, some-at, device-at, wiring-at, asked-at, answered-at, state-at, format-at, fit, settings-listed}
+use Rattle.queries.specs.FormatAnswer.{formatFrom, formatByCells}
+use Rattle.queries.specs.PortAnswer.{portFacts, portByCells}
+use Rattle.soundness.proofs.Records.{here, some-at, device-at, wiring-at, asked-at, answered-at, state-at, format-at, fit, settings-listed}
 
 -- ---- a sound table is not refused
 
@@ -36,6 +36,17 @@ port-sound cells port s = rw s
 pub format-sound : (cells : List ℕ) (port mode : ℕ) → sound cells ≡ true → formatByCells cells port mode ≡ accepted (formatFrom (viewOfCells cells port) mode)
 unfolding formatByCells
 format-sound cells port mode s = rw s
+
+-- ---- one that isn't sound is
+
+module _ (cells : List ℕ) (unsound : sound cells ≡ false) where
+  pub port-9 : (port : ℕ) → portByCells cells port ≡ refused 9 0
+  unfolding portByCells
+  port-9 port = rw unsound
+
+  pub format-9 : (port mode : ℕ) → formatByCells cells port mode ≡ refused 9 0
+  unfolding formatByCells
+  format-9 port mode = rw unsound
 
 -- ---- a setup
 

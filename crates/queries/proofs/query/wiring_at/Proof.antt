@@ -6,9 +6,9 @@ use Rattle.rules.specs.Cells.{firstPartner, secondPartner}
 use Rattle.rules.specs.Layout.{portCount, wiringIndex, firstIndex, secondIndex}
 use Rattle.rules.specs.declared.Wiring.{Wiring}
 use Rattle.soundness.specs.Place.{cellOf}
-use Rattle.table.proofs.Queries.{wiring-unjoined, wiring-joined, wiring-virtual}
-use Rattle.table.proofs.query.wiring_at.Statement.{statement}
-use Rattle.table.proofs.query.wiring_at.Tie as tie
+use Rattle.queries.proofs.Queries.{wiring-unjoined, wiring-joined, wiring-virtual}
+use Rattle.queries.proofs.query.wiring_at.Statement.{statement}
+use Rattle.queries.proofs.query.wiring_at.Tie as tie
 
 mul-kind : tie.Need-mul-kind
 mul-kind c = search needs

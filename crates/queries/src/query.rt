@@ -1,5 +1,4 @@
 // What the table says of a port, and of a mode's format.
-use crate::lookup::format_in;
 use rules::Format;
 use rules::Setup;
 use rules::Wiring;
@@ -17,6 +16,7 @@ use rules::layout::STRIDE;
 use rules::layout::UNJOINED;
 use rules::layout::WIRING;
 use soundness::place::find;
+use values::format::format_in;
 ghost use mathlib.Core.Path.{_≡_};
 ghost use mathlib.Core.Bool.{true};
 ghost use Prim.Native.Nat.{_+_, _<_};
@@ -26,10 +26,10 @@ ghost use Rattle.rules.specs.Cells.{firstPartner, formatAt, secondPartner, setu
 ghost use Rattle.rules.specs.Layout.{places, portCount, tableSize};
 ghost use Rattle.rules.specs.WellFormed.{setupFits};
 ghost use Rattle.soundness.specs.Place.{wiringHere};
-ghost use Rattle.table.specs.FormatAnswer as FormatAnswer;
-ghost use Rattle.table.specs.PortAnswer.{portByCells, setupOf};
-ghost use Rattle.table.specs.PortAnswer as PortAnswer;
-ghost use Rattle.table.specs.FormatAnswer.{formatByCells};
+ghost use Rattle.queries.specs.FormatAnswer as FormatAnswer;
+ghost use Rattle.queries.specs.PortAnswer.{portByCells, setupOf};
+ghost use Rattle.queries.specs.PortAnswer as PortAnswer;
+ghost use Rattle.queries.specs.FormatAnswer.{formatByCells};
 
 // The latest setup that was asked for, or answered, since the port was attached; or that none was.
 pub enum LatestSetup {
