@@ -6,11 +6,8 @@ pub mod LogBlocks
 pub mod LogLines
 pub mod Lookups
 pub mod Offers
-pub mod States
 pub mod Steps
-pub mod Stores
 pub mod Tells
 pub mod Unsound
 pub mod DatasetAnswers
 pub mod Wirings
-pub mod Zeros

@@ -1,7 +1,7 @@
 -- Offering a message: what judging says of the table, what changes, and what is answered.
 use Prim.Native.Nat.{ℕ}
 use mathlib.Core.Path.{_≡_, refl, sym, _∙_, ap}
-use mathlib.Core.Bool.{true, false}
+use mathlib.Core.Bool.{Bool, true, false, cond}
 use mathlib.Core.List.{List, [], _∷_}
 use types.Run.{OneOf, miss}
 use denote.Enum.Declared.{tagOf}
@@ -29,7 +29,10 @@ use Rattle.rules.proofs.Effect.{the-type}
 use Rattle.rules.proofs.Kept.{fresh-by, virtual-by, wanted}
 use Rattle.rules.proofs.OpenBytes.{open-alike}
 use Rattle.rules.proofs.Ranges.{effect-fits}
+use Rattle.rules.specs.Layout.{tableSize}
 use Rattle.table.specs.Judged.{refusalBy, judgedBy}
+use Rattle.table.specs.OfferAnswer.{emptyAnswer}
+use borrow.Author.Tests.{eq-eqb, ne-eqb}
 
 -- ---- what judging says of the table
 
@@ -111,3 +114,11 @@ module _ (cells s : List ℕ) (way : Way) (good : sound cells ≡ true) where
 -- the fields of an accepted message are within their lists
 pub fits-by : (s : List ℕ) (way : Way) (m : Message) (e : Effect) → Bytes s → decode way s ≡ Decode.accepted (formOf m) (valuesOf m) → e ≡ effectOf m → effectFits e ≡ true
 fits-by s way m e bytes read is = ap effectFits (is ∙ sym (ap effectOf (message-back m))) ∙ effect-fits way s bytes (formOf m) (valuesOf m) read
+
+-- ---- emptying
+
+pub empty-refused : (cells : List ℕ) → (length cells ≡ tableSize → ⊥) → emptyAnswer cells ≡ refused 9 0
+empty-refused cells h = ap (λ (b : Bool). cond b (accepted tt) (refused 9 0)) (ne-eqb (length cells) tableSize h)
+
+pub empty-done : (cells : List ℕ) → length cells ≡ tableSize → emptyAnswer cells ≡ accepted tt
+empty-done cells e = ap (λ (b : Bool). cond b (accepted tt) (refused 9 0)) (eq-eqb (length cells) tableSize e)

@@ -3,4 +3,3 @@ pub mod Judged
 pub mod LogLine
 pub mod Lookup
 pub mod OfferAnswer
-pub mod Stores

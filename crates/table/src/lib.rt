@@ -12,19 +12,20 @@ use crate::block::block_sound;
 use crate::datasets::dataset_sound;
 use crate::offering::Outcome;
 use crate::offering::offer_sound;
-use crate::step::clear;
 use protocol::Way;
 use rules::layout::TABLE_SIZE;
 use soundness::is_sound;
+use stores::clear;
 use values::datasets::Dataset;
 ghost use mathlib.Core.Path.{_≡_};
 ghost use lib.ListN.{length};
 ghost use Rattle.rules.specs.Answer.{outcome};
 ghost use Rattle.rules.specs.Offer.{cellsAfter, datasetByCells, offerByCells};
+ghost use Rattle.stores.specs.Stores.{emptied};
 ghost use Rattle.table.specs.BlockAnswer.{blockAnswer, blockCells, blockFits, blockText, runOf};
 ghost use Rattle.table.specs.BlockAnswer as BlockAnswer;
 ghost use Rattle.values.specs.DatasetAnswer as DatasetAnswer;
-ghost use Rattle.table.specs.OfferAnswer.{emptied, emptyAnswer};
+ghost use Rattle.table.specs.OfferAnswer.{emptyAnswer};
 ghost use Rattle.table.specs.OfferAnswer as OfferAnswer;
 
 // Makes an empty table of `TABLE_SIZE` cells of any content.
