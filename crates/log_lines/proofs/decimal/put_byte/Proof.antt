@@ -4,7 +4,7 @@ use Rattle.log_lines.proofs.decimal.put_byte.Statement.{statement}
 use Rattle.log_lines.proofs.decimal.put_byte.Tie as tie
 
 slice-write-out : tie.Need-slice-write-out
-slice-write-out c = search needs
+slice-write-out c = c .if1 .taken
 
 same-length : tie.Need-same-length
 same-length c = search needs
