@@ -1,11 +1,11 @@
 // A port table, whose cells the caller lends.
 use crate::fill::fill;
 use crate::way::way_of;
+use queries::format;
+use queries::port;
 use table::dataset;
 use table::empty;
-use table::format;
 use table::offer;
-use table::port;
 use table_cells::dataset_row;
 use table_cells::format_row;
 use table_cells::outcome_number;
@@ -14,9 +14,10 @@ ghost use mathlib.Core.Path.{_≡_};
 ghost use Rattle.rules.specs.Answer.{outcome};
 ghost use Rattle.rules.specs.Offer.{cellsAfter, datasetByCells, offerByCells};
 ghost use Rattle.message_rows.specs.Row.{wayOf};
-ghost use Rattle.table.specs.FormatAnswer.{formatByCells};
-ghost use Rattle.table.specs.OfferAnswer.{emptied, emptyAnswer};
-ghost use Rattle.table.specs.PortAnswer.{portByCells};
+ghost use Rattle.queries.specs.FormatAnswer.{formatByCells};
+ghost use Rattle.stores.specs.Stores.{emptied};
+ghost use Rattle.table.specs.OfferAnswer.{emptyAnswer};
+ghost use Rattle.queries.specs.PortAnswer.{portByCells};
 ghost use Rattle.table_cells.specs.Rows.{datasetRow, formatRow, outcomeNumber, portRow};
 ghost use Rattle.capi.specs.Filled.{filledBy, filledWith};
 

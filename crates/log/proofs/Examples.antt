@@ -17,7 +17,10 @@ use Rattle.log.specs.Decimal.{decimal}
 use Rattle.log.specs.Record.{messageIn, malformed}
 use Rattle.log.specs.Line.{valueLine, recordLine, cellsAfterRecord}
 use Rattle.log.specs.Output.{allLines, totalText, output}
-use Rattle.log.specs.Examples.{SixRecords, OtherRecords, EmptyInput}
+use Rattle.log.specs.Examples.{ValuesLine, SixRecords, OtherRecords, EmptyInput}
+
+pub values-line : ValuesLine
+values-line = refl
 
 pub six-records : SixRecords
 unfolding decode decodeWay decodeType decodeForm layout littleEndian types hubAttachedIo portModeInformation effectOf valueLookup judge datasetOf datasetAnswer learn apply wellFormed recordCells cellsOf recordAt tableAt sound emptyCells judgeEntry datasetEntry offerByCells cellsAfter datasetByCells decimal messageIn malformed valueLine recordLine cellsAfterRecord allLines totalText output

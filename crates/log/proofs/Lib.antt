@@ -1,3 +1,4 @@
+pub mod AfterRecord
 pub mod Cutting
 pub mod Datasets
 pub mod Decimals

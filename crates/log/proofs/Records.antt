@@ -13,6 +13,7 @@ use lib.Seq.{drop-cons, drop-drop, take-all}
 use borrow.Author.Tests.{eqb-true, eqb-false, ne-eqb, eq-eqb, le-leb, lt-leb}
 use Rattle.protocol.proofs.Tests.{which}
 use Rattle.protocol.specs.declared.Way.the-variants.{Down, Up}
+use Rattle.protocol.specs.Decode.{longestMessage}
 use Rattle.log.specs.Record.{front, recordSize, messageSize, messageIn, malformed, allZero, wayOf}
 
 -- ---- zeros
@@ -62,13 +63,13 @@ looked-all {s} {found} {i} p h =
 
 module _ (part : ℕ) (s : List ℕ) where
   pub size-missing : length s ≤ front → _≡_ {A = ℕ} 0 (messageSize part s)
-  size-missing h = sym (ap (λ (n : ℕ). cond (leb n 127) n part) (List·getD-eq-default s 0 {n = front} h))
+  size-missing h = sym (ap (λ (n : ℕ). cond (leb n longestMessage) n part) (List·getD-eq-default s 0 {n = front} h))
 
-  pub size-over : 127 < getD s front 0 → part ≡ messageSize part s
-  size-over h = sym (ap (λ (t : Bool). cond t (getD s front 0) part) (lt-leb (getD s front 0) 127 h))
+  pub size-over : longestMessage < getD s front 0 → part ≡ messageSize part s
+  size-over h = sym (ap (λ (t : Bool). cond t (getD s front 0) part) (lt-leb (getD s front 0) longestMessage h))
 
-  pub size-told : getD s front 0 ≤ 127 → getD s front 0 ≡ messageSize part s
-  size-told h = sym (ap (λ (t : Bool). cond t (getD s front 0) part) (le-leb (getD s front 0) 127 h))
+  pub size-told : getD s front 0 ≤ longestMessage → getD s front 0 ≡ messageSize part s
+  size-told h = sym (ap (λ (t : Bool). cond t (getD s front 0) part) (le-leb (getD s front 0) longestMessage h))
 
   pub message-in : (n : ℕ) → n ≡ messageSize part s → take n (drop front s) ≡ messageIn part s
   unfolding messageIn

@@ -5,18 +5,15 @@ use lib.Dec.{leb, ltb}
 use lib.ListN.{length}
 use Rattle.log.specs.Record.{recordSize}
 use Rattle.log.specs.Cutting.{Run, worked, printed}
+use Rattle.log.specs.Ending.{mostCount}
 
 -- no line is longer: at most 21 numbers of 20 digits, each with a space or the line's end
 abbrev pub lineRoom : ℕ
 lineRoom = 448
 
--- the greatest total that a machine's number holds
-abbrev pub mostLines : ℕ
-mostLines = 18446744073709551615
-
 -- a whole record is there, the output has room for any line, and the totals can count one more
 abbrev pub goesOn : ℕ → Run → ℕ → Bool
-goesOn part r room = leb (recordSize part) (length (r .rest)) && leb lineRoom room && ltb (r .lines) mostLines && ltb (r .refused) mostLines
+goesOn part r room = leb (recordSize part) (length (r .rest)) && leb lineRoom room && ltb (r .lines) mostCount && ltb (r .refused) mostCount
 
 -- how many records, of at most so many
 abbrev pub recordsIn : ℕ → ℕ → Run → ℕ → ℕ

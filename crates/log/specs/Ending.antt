@@ -14,7 +14,7 @@ abbrev pub endingText : ℕ → ℕ → Bool → List ℕ
 endingText lines refused true = numbered lines (Line.refused 19 ∷ []) ++ totalText (lines + 1) (refused + 1)
 endingText lines refused false = totalText lines refused
 
--- the greatest count
+-- the greatest total that a machine's number holds
 abbrev pub mostCount : ℕ
 mostCount = 18446744073709551615
 

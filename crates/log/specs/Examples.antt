@@ -3,6 +3,7 @@ use Prim.Native.Nat.{ℕ, _-_}
 use mathlib.Core.Path.{_≡_}
 use mathlib.Core.List.{List, [], _∷_, _++_}
 use lib.ListN.{length, replicate}
+use Rattle.log.specs.Line.{values, numbersOf}
 use Rattle.log.specs.Output.{output}
 
 -- a record at time 0, with its direction and the byte after it, which is 0 in a good record
@@ -61,6 +62,10 @@ otherLines =
 
 abbrev pub OtherRecords : Type 0
 OtherRecords = output 128 otherRecords ≡ otherLines
+
+-- port 7 in mode 2 and state 1, with two datasets: "0 7 2 1 5 258"
+abbrev pub ValuesLine : Type 0
+ValuesLine = numbersOf (values 7 2 1 (5 ∷ 258 ∷ [])) ≡ 0 ∷ 7 ∷ 2 ∷ 1 ∷ 5 ∷ 258 ∷ []
 
 -- "total 0 refused 0"
 abbrev pub EmptyInput : Type 0

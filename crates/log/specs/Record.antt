@@ -5,6 +5,7 @@ use mathlib.Core.Bool.{Bool, true, cond, not, _&&_, _||_}
 use mathlib.Core.List.{List, [], _∷_}
 use lib.Dec.{eqb, leb}
 use lib.ListN.{length, getD, take, drop}
+use Rattle.protocol.specs.Decode.{longestMessage}
 use Rattle.protocol.specs.declared.Way.{Way}
 use Rattle.protocol.specs.declared.Way.the-variants.{Down, Up}
 use Rattle.rules.specs.Offer.{Entry}
@@ -16,9 +17,9 @@ front = 8
 abbrev pub recordSize : ℕ → ℕ
 recordSize part = front + part
 
--- how long the message is: as its first byte says, or all of its part if that is over 127
+-- how long the message is: as its first byte says, or all of its part if that is over the most bytes of a message
 abbrev pub messageSize : ℕ → List ℕ → ℕ
-messageSize part s = cond (leb (getD s front 0) 127) (getD s front 0) part
+messageSize part s = cond (leb (getD s front 0) longestMessage) (getD s front 0) part
 
 unfoldable pub messageIn : ℕ → List ℕ → List ℕ
 messageIn part s = take (messageSize part s) (drop front s)

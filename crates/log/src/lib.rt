@@ -1,5 +1,2 @@
-// A night's log: its records, and the line that is printed of each.
-pub mod block;
-pub mod decimal;
-pub mod record;
-pub mod totals;
+// A night's log: its records, the line that is printed of each, and working through it piece by piece. Definitions and
+// laws. No function.

@@ -2,8 +2,8 @@
 use crate::words::fail;
 use crate::words::tell;
 use libc::STDOUT_FILENO;
-use log::record::RECORD_SIZE;
-use log::totals::put_ending;
+use log_lines::record::RECORD_SIZE;
+use log_lines::totals::put_ending;
 use table::block::Block;
 use table::read_block;
 ghost use mathlib.Core.Path.{_≡_};

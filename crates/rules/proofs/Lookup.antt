@@ -77,7 +77,8 @@ view-insert new (some r ∷ t) q room fresh =
     (λ (yes : eqb (r .port) (new .port) ≡ true). let there : some (r .facts) ≡ none = rw yes at fresh in let z : _≡_ {A = ℕ} 0 1 = cc in absurd (omega arith))
     (λ (no : eqb (r .port) (new .port) ≡ false).
     let rest : viewOfTable t (new .port) ≡ none = rw no at fresh in
-    ap (λ (x : Option Facts). cond (eqb (r .port) q) (some (r .facts)) x) (view-insert new t q room rest) ∙ swap (which (eqb (r .port) q)) no)
+    let past : viewOfTable (insert new (some r ∷ t)) q ≡ cond (eqb (r .port) q) (some (r .facts)) (viewOfTable (insert new t) q) = refl in
+    past ∙ ap (λ (x : Option Facts). cond (eqb (r .port) q) (some (r .facts)) x) (view-insert new t q room rest) ∙ swap (which (eqb (r .port) q)) no)
     (which (eqb (r .port) (new .port)))
   where
     swap : (eqb (r .port) q ≡ true) ⊎ (eqb (r .port) q ≡ false) → eqb (r .port) (new .port) ≡ false

@@ -15,7 +15,7 @@ use Rattle.rules.proofs.Lookup.{mapFacts}
 use Rattle.rules.proofs.Pairs.{joined-same, unjoined-joined}
 use Rattle.rules.proofs.Sound.{wiring?, wiredIn, Sound, seen, or-either}
 use Rattle.rules.proofs.Follows.{unwired, unwire, attachedAs, factsSince, Follows}
-use Rattle.rules.proofs.Settings.{same-settings}
+use Rattle.rules.proofs.Settings.{learnt, same-settings}
 use Rattle.rules.proofs.Step.{pairIn, member-is, pair-joins}
 
 module _ (t : Table) (s : Sound t) (h : History) (f : Follows t h) (q : ℕ) where
@@ -91,7 +91,9 @@ module _ (t : Table) (s : Sound t) (h : History) (f : Follows t h) (q : ℕ) whe
   same-mode-of none absent k = refl
   same-mode-of none (since a l) k = let z : _≡_ {A = ℕ} 0 1 = cc in absurd (omega arith)
   same-mode-of (some g) absent k = let z : _≡_ {A = ℕ} 0 1 = cc in absurd (omega arith)
-  same-mode-of (some g) (since a l) k = ap modeBy k ∙ ap (λ (s : Settings). modeIn (s .answered)) (same-settings l)
+  same-mode-of (some g) (since a l) k =
+      let by : modeBy (factsSince (since a l)) ≡ modeIn (learnt l .answered) = refl in
+      ap modeBy k ∙ by ∙ ap (λ (s : Settings). modeIn (s .answered)) (same-settings l)
 
   pub same-mode : modesOfTable t q ≡ modesOfHistory h q
   unfolding modesOfHistory

@@ -13,9 +13,10 @@ use Rattle.protocol.specs.declared.Way.the-variants.{Down, Up}
 use Rattle.rules.specs.Answer.{Answer, refused, accepted, outcome}
 use Rattle.rules.specs.Effect.{Effect, setup, Formatted}
 use Rattle.rules.specs.Facts.{Setup, Format, Wiring, Unjoined, Joined, Virtual, Facts}
+use Rattle.rules.specs.Judge.{widthOf, judgeDisconnect}
 use Rattle.rules.specs.Learn.{bareSettings, learn}
 use Rattle.rules.specs.Offer.{Entry, offerByPast, datasetByPast, viewOfPast}
-use Rattle.rules.specs.Table.{Record, Table}
+use Rattle.rules.specs.Table.{Record, Table, bare}
 use Rattle.rules.specs.Dataset.{Dataset, Number, whole, float, stamped}
 use Rattle.rules.specs.WellFormed.{wellFormed}
 
@@ -180,23 +181,31 @@ sixteen = map attached (upFrom 0 16)
 abbrev second : ℕ → List ℕ → Number → Example
 second kind bytes n = hands (attached 0 ∷ format 2 2 kind ∷ answered 2 1 1 ∷ []) (value bytes) 1 (stamped 0 2 0 n)
 
-abbrev pub examples : List Example
-examples =
-    -- the six records of the log reader's section
+-- the six records of the log reader's section
+abbrev theLog : List Example
+theLog =
     accepts [] (attached 0)
     ∷ accepts (attached 0 ∷ []) (format 2 1 2)
     ∷ refuses motor five 14
     ∷ accepts motor (asked 2 1 1)
     ∷ accepts (motor ++ (asked 2 1 1 ∷ [])) (answered 2 1 1)
     ∷ hands (motor ++ (asked 2 1 1 ∷ answered 2 1 1 ∷ [])) five 0 (stamped 0 2 2 (whole 5))
-    -- states 0, 1 (read by the mode that was answered, not by the one asked for) and 3: another delta, notify, mode
-    ∷ hands (motor ++ (answered 2 1 1 ∷ [])) five 0 (stamped 0 2 0 (whole 5))
+    ∷ []
+
+-- states 0, 1 (read by the mode that was answered, not by the one asked for) and 3: another delta, notify, mode
+abbrev states : List Example
+states =
+    hands (motor ++ (answered 2 1 1 ∷ [])) five 0 (stamped 0 2 0 (whole 5))
     ∷ hands (motor ++ (format 3 1 0 ∷ answered 2 1 1 ∷ asked 3 1 1 ∷ [])) five 0 (stamped 0 2 1 (whole 5))
     ∷ hands (motor ++ (asked 2 1 1 ∷ answered 2 9 1 ∷ [])) five 0 (stamped 0 2 3 (whole 5))
     ∷ hands (motor ++ (asked 2 1 1 ∷ answered 2 1 0 ∷ [])) five 0 (stamped 0 2 3 (whole 5))
     ∷ hands (motor ++ (asked 3 1 1 ∷ answered 2 1 1 ∷ [])) five 0 (stamped 0 2 3 (whole 5))
-    -- 11, before 12
-    ∷ refuses (attached 0 ∷ []) (attached 0) 11
+    ∷ []
+
+-- 11, before 12
+abbrev attachments : List Example
+attachments =
+    refuses (attached 0 ∷ []) (attached 0) 11
     ∷ refuses (attached 0 ∷ []) (virtual 0 0 0) 11
     -- 12: the same member twice, an absent one, a joined one, a virtual one
     ∷ accepts (attached 0 ∷ attached 1 ∷ []) (virtual 16 0 1)
@@ -204,28 +213,48 @@ examples =
     ∷ refuses (attached 0 ∷ []) (virtual 16 0 1) 12
     ∷ refuses (joined ++ (attached 2 ∷ [])) (virtual 17 1 2) 12
     ∷ refuses (joined ++ (attached 2 ∷ [])) (virtual 17 2 16) 12
-    -- 61
-    ∷ accepts (attached 0 ∷ attached 1 ∷ []) (connect 0 1)
+    ∷ []
+
+-- 61
+abbrev pairs : List Example
+pairs =
+    accepts (attached 0 ∷ attached 1 ∷ []) (connect 0 1)
     ∷ refuses joined (connect 0 1) 12
     ∷ accepts joined (disconnect 16)
     ∷ refuses joined (disconnect 0) 12
     ∷ refuses joined (disconnect 2) 10
-    -- 13 at the seventeenth; none after a detachment
-    ∷ refuses sixteen (attached 16) 13
+    ∷ []
+
+-- 13 at the seventeenth; none after a detachment
+abbrev sixteenPorts : List Example
+sixteenPorts =
+    refuses sixteen (attached 16) 13
     ∷ accepts (sixteen ++ (detached 3 ∷ [])) (attached 16)
-    -- 15 to 18
-    ∷ refuses (attached 0 ∷ answered 2 1 1 ∷ []) five 15
+    ∷ []
+
+-- 15 to 18
+abbrev readings : List Example
+readings =
+    refuses (attached 0 ∷ answered 2 1 1 ∷ []) five 15
     ∷ refuses (motor ++ (answered 2 1 1 ∷ [])) (value (0x05 ∷ 0x00 ∷ 0x00 ∷ [])) 16
     ∷ hands (motor ++ (answered 2 1 1 ∷ [])) five 1 (refused 17 0)
     ∷ hands motor (attached 1) 0 (refused 17 0)
     ∷ hands (attached 0 ∷ format 2 1 3 ∷ answered 2 1 1 ∷ []) (value (0x00 ∷ 0x00 ∷ 0x80 ∷ 0x7F ∷ [])) 0 (refused 18 0)
-    -- two datasets of each kind, unsigned, and a float
-    ∷ second 0 (0x01 ∷ 0xFF ∷ []) (whole 255)
+    ∷ []
+
+-- two datasets of each kind, unsigned, and a float
+abbrev datasets : List Example
+datasets =
+    second 0 (0x01 ∷ 0xFF ∷ []) (whole 255)
     ∷ second 1 (0x01 ∷ 0x00 ∷ 0x02 ∷ 0x01 ∷ []) (whole 258)
     ∷ second 2 (0x01 ∷ 0x00 ∷ 0x00 ∷ 0x00 ∷ 0x02 ∷ 0x00 ∷ 0x01 ∷ 0x00 ∷ []) (whole 65538)
     ∷ second 3 (0x00 ∷ 0x00 ∷ 0x00 ∷ 0x00 ∷ 0x00 ∷ 0x00 ∷ 0x48 ∷ 0x43 ∷ []) (float (fin false 25 (pos 3)))
-    -- members as sent; a pulled member; what is told is forgotten with the port; 30 to 32 empty the table
-    ∷ knows (attached 0 ∷ attached 1 ∷ virtual 16 1 0 ∷ []) 16 (present 0x26 (Virtual 1 0))
+    ∷ []
+
+-- members as sent; a pulled member; what is told is forgotten with the port; 30 to 32 empty the table
+abbrev ports : List Example
+ports =
+    knows (attached 0 ∷ attached 1 ∷ virtual 16 1 0 ∷ []) 16 (present 0x26 (Virtual 1 0))
     ∷ knows joined 1 (present 0x26 (Joined 16))
     ∷ knows (joined ++ (detached 0 ∷ [])) 16 absent
     ∷ knows (joined ++ (detached 0 ∷ [])) 1 (present 0x26 Unjoined)
@@ -234,15 +263,23 @@ examples =
     ∷ knows (joined ++ (action 0x30 ∷ [])) 1 absent
     ∷ knows (joined ++ (action 0x32 ∷ [])) 1 absent
     ∷ knows (joined ++ (shutDown ∷ [])) 1 (present 0x26 (Joined 16))
-    -- a port twice; joined to nothing; a pair, its member unjoined, the same member twice, a third one joined
-    ∷ table (wired 0 Unjoined ∷ wired 0 Unjoined ∷ []) false
+    ∷ []
+
+-- a port twice; joined to nothing; a pair, its member unjoined, the same member twice, a third one joined
+abbrev wirings : List Example
+wirings =
+    table (wired 0 Unjoined ∷ wired 0 Unjoined ∷ []) false
     ∷ table (wired 0 (Joined 16) ∷ []) false
     ∷ table (wired 0 (Joined 16) ∷ wired 16 (Virtual 0 1) ∷ none ∷ wired 1 (Joined 16) ∷ []) true
     ∷ table (wired 0 (Joined 16) ∷ wired 16 (Virtual 0 1) ∷ wired 1 Unjoined ∷ []) false
     ∷ table (wired 0 (Joined 16) ∷ wired 16 (Virtual 0 0) ∷ []) false
     ∷ table (wired 0 (Joined 16) ∷ wired 16 (Virtual 0 1) ∷ wired 1 (Joined 16) ∷ wired 2 (Joined 16) ∷ []) false
-    -- states that fit, and that don't; fields outside their lists
-    ∷ table (stated none none 1) false
+    ∷ []
+
+-- states that fit, and that don't; fields outside their lists
+abbrev fields : List Example
+fields =
+    table (stated none none 1) false
     ∷ table (stated none (some (setup 2 1 1)) 1) true
     ∷ table (stated none (some (setup 2 1 1)) 2) false
     ∷ table (stated (some (setup 2 1 1)) (some (setup 2 1 1)) 2) true
@@ -255,10 +292,39 @@ examples =
     ∷ table (formatted 17 3) false
     ∷ table (formatted 0 3) false
     ∷ table (formatted 16 4) false
-    -- 10; accepted where the port is present
-    ∷ accepts (attached 0 ∷ []) request
+    ∷ []
+
+-- 10; accepted where the port is present
+abbrev presence : List Example
+presence =
+    accepts (attached 0 ∷ []) request
     ∷ map (λ e. refuses [] e 10) wanting
+
+-- bytes of a dataset, by kind
+abbrev Widths : Type 0
+Widths = map widthOf (0 ∷ 1 ∷ 2 ∷ 3 ∷ []) ≡ 1 ∷ 2 ∷ 4 ∷ 4 ∷ []
+
+-- a disconnection of an absent port, an unjoined one, a joined one and a virtual one
+abbrev Disconnections : Type 0
+Disconnections = map judgeDisconnect (none ∷ some (bare 0x26 Unjoined) ∷ some (bare 0x26 (Joined 16)) ∷ some (bare 0x26 (Virtual 0 1)) ∷ []) ≡ 10 ∷ 12 ∷ 12 ∷ 0 ∷ []
+
+-- what was said is what was wanted, row by row
+abbrev Hold : List Example → Type 0
+Hold rows = map (λ e. e .said) rows ≡ map (λ e. e .wanted) rows
 
 -- one statement, `examples-hold` in proofs/Examples.antt
 abbrev pub ExamplesHold : Type 0
-ExamplesHold = map (λ e. e .said) examples ≡ map (λ e. e .wanted) examples
+ExamplesHold =
+    Widths
+    × Disconnections
+    × Hold theLog
+    × Hold states
+    × Hold attachments
+    × Hold pairs
+    × Hold sixteenPorts
+    × Hold readings
+    × Hold datasets
+    × Hold ports
+    × Hold wirings
+    × Hold fields
+    × Hold presence

@@ -33,9 +33,13 @@ abbrev pub refusalIfFull : Bool → ℕ
 refusalIfFull full = cond full 13 0
 
 -- 16: value bytes differ from datasets times width
+abbrev pub sizeRefusal : Format → ℕ → ℕ
+sizeRefusal f count = cond (eqb count (f .datasets * widthOf (f .kind))) 0 16
+
+-- a value of so many bytes, by what it is read by
 abbrev pub judgeValue : ValueLookup → ℕ → ℕ
 judgeValue (Refused n) count = n
-judgeValue (Found mode state f) count = cond (eqb count (f .datasets * widthOf (f .kind))) 0 16
+judgeValue (Found mode state f) count = sizeRefusal f count
 
 -- 10, then 12 for a physical port
 abbrev pub judgeDisconnect : Option Facts → ℕ

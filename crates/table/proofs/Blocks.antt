@@ -21,8 +21,8 @@ use Rattle.rules.specs.Layout.{modeCount, wiringIndex, portIndex, deviceIndex, 
 use Rattle.rules.specs.Learn.{answeredState, learn}
 use Rattle.rules.specs.Table.{Record, newRecord, wired, onSettings}
 use Rattle.rules.specs.Cells.{formatCell, setupCells, wiringCell, firstPartner, secondPartner, formatCells, modes, recordCells, placeCells, setupFrom}
-use Rattle.table.specs.Stores.{Store, put}
-use Rattle.table.proofs.Stores.{storedIn, set-past}
+use Rattle.stores.specs.Stores.{Store, put, setupStores}
+use Rattle.stores.proofs.Stores.{storedIn, set-past}
 
 -- a record with other facts
 abbrev pub with-facts : Record → Facts → Record
@@ -87,10 +87,6 @@ format-block r mode new h =
 
 -- ---- setups
 
--- a setup in the three cells from one on, and the state
-abbrev pub setup-stores : ℕ → Setup → ℕ → List Store
-setup-stores cell s state = put cell (s .mode + 1) ∷ put (cell + 1) (s .delta) ∷ put (cell + 2) (s .notify) ∷ put stateIndex state ∷ []
-
 ask-cells : (w port device a b state m d n : ℕ) (asked answered : Option Setup) (fs : List ℕ)
     → storedIn (w ∷ port ∷ device ∷ a ∷ b ∷ state ∷ (setupCells asked ++ setupCells answered ++ fs)) (put askedIndex m ∷ put (askedIndex + 1) d ∷ put (askedIndex + 2) n ∷ put stateIndex 1 ∷ [])
     ≡ w ∷ port ∷ device ∷ a ∷ b ∷ 1 ∷ ((m ∷ d ∷ n ∷ []) ++ setupCells answered ++ fs)
@@ -98,7 +94,7 @@ ask-cells w port device a b state m d n none answered fs = refl
 ask-cells w port device a b state m d n (some s) answered fs = refl
 
 pub ask-block : (r : Record) (s : Setup)
-    → storedIn (recordCells r) (setup-stores askedIndex s 1) ≡ recordCells (with-facts r (onSettings (learn (Asked s)) (r .facts)))
+    → storedIn (recordCells r) (setupStores askedIndex s 1) ≡ recordCells (with-facts r (onSettings (learn (Asked s)) (r .facts)))
 unfolding recordCells learn
 ask-block r s =
     let f : Facts = r .facts in
@@ -114,7 +110,7 @@ answer-cells w port device a b state m d n new (some s) none fs = refl
 answer-cells w port device a b state m d n new (some s) (some t) fs = refl
 
 pub answer-block : (r : Record) (s : Setup)
-    → storedIn (recordCells r) (setup-stores answeredIndex s (answeredState (r .facts .settings .asked) s)) ≡ recordCells (with-facts r (onSettings (learn (Answered s)) (r .facts)))
+    → storedIn (recordCells r) (setupStores answeredIndex s (answeredState (r .facts .settings .asked) s)) ≡ recordCells (with-facts r (onSettings (learn (Answered s)) (r .facts)))
 unfolding recordCells learn
 answer-block r s =
     let f : Facts = r .facts in

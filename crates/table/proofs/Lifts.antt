@@ -18,8 +18,8 @@ use Rattle.rules.proofs.Pairs.{port-first, port-second}
 use Rattle.rules.proofs.Keep.{loose-change}
 use Rattle.rules.proofs.Apply.{fit-wired, loose-members}
 use Rattle.soundness.specs.Place.{placeOf, firstFree}
-use Rattle.table.specs.Stores.{Store, stored, zeroed}
-use Rattle.table.proofs.Stores.{storedIn, Within, place-stores, place-zeroed}
+use Rattle.stores.specs.Stores.{Store, stored, zeroed}
+use Rattle.stores.proofs.Stores.{storedIn, Within, place-stores, place-zeroed}
 use Rattle.table.proofs.Blocks.{wiring-stores, wiring-block}
 use Rattle.table.proofs.Changes.{stands, change-place, remove-place, insert-place, free-none, place-change}
 

@@ -9,22 +9,25 @@ use borrow.Author.Tests.{lt-ltb, le-ltb, eqb-true, eqb-false, leb-true, ltb-true
 use lib.Dec.{eqb, leb, ltb}
 use lib.ListN.{length, getD, take, drop, length-append, length-take, length-drop, List·getD-eq-default}
 use lib.Seq.{getD-take, getD-drop}
+use Rattle.protocol.specs.Number.{Bytes}
+use Rattle.protocol.proofs.Bytes.{Bytes-take, Bytes-drop}
 use Rattle.protocol.proofs.Tests.{which, and-left, and-right}
 use Rattle.rules.specs.Cells.{sound}
 use Rattle.rules.specs.Offer.{cellsAfter}
 use Rattle.rules.proofs.Laws.{step-keeps-sound}
 use Rattle.log.specs.Decimal.{lineText}
-use Rattle.log.specs.Record.{recordSize, entryOf, malformed, messageIn}
+use Rattle.log.specs.Record.{front, recordSize, entryOf, malformed, messageSize, messageIn}
 use Rattle.log.specs.Line.{Line, recordLine, cellsAfterRecord, refusalOf, numbersOf}
 use Rattle.protocol.specs.Overwrite.{overwrite}
 use Rattle.log.specs.Cutting.{Run, worked, printed}
-use Rattle.log.specs.Block.{lineRoom, mostLines, goesOn, recordsIn, blockRecords}
+use Rattle.log.specs.Ending.{mostCount}
+use Rattle.log.specs.Block.{lineRoom, goesOn, recordsIn, blockRecords}
 use Rattle.protocol.proofs.Overwrite.{overwrite-nothing, overwrite-length, overwrite-then}
 use Rattle.log.proofs.OneMore.{nextRecord, nextLine, cells-next, lines-next, refused-next, text-next, takes-more, takes-none, run-next, printed-one}
-use Rattle.rules.specs.Answer.{Answer, refused, accepted}
-use Rattle.table.specs.BlockAnswer.{Progress, progress, blockAnswer, blockCells, blockText}
-use Rattle.table.specs.LogLine.{PrintedAs}
-use Rattle.table.proofs.LogLines.{message-bytes}
+use Rattle.rules.specs.Answer.{refused, accepted}
+use Rattle.table.specs.BlockAnswer.{progress, blockAnswer, blockCells, blockText}
+use Rattle.log_lines.specs.LogLine.{PrintedAs}
+use Rattle.log_lines.proofs.ValueLines.{all-bytes}
 
 -- ---- four tests in a row
 
@@ -40,18 +43,18 @@ fails-3 x y z w c d e = rw (c, d, e)
 pub decides-4 : (x y z w v : Bool) → x ≡ true → y ≡ true → z ≡ true → v ≡ w → v ≡ (x && y && z && w)
 decides-4 x y z w v b c d e = rw (b, c, d) e
 
-pub is-most : (n : ℕ) → n ≡ mostLines → ltb n mostLines ≡ false
-is-most n e = le-ltb n mostLines (omega arith)
+pub is-most : (n : ℕ) → n ≡ mostCount → ltb n mostCount ≡ false
+is-most n e = le-ltb n mostCount (omega arith)
 
-pub not-most : (n : ℕ) → n < suc mostLines → (n ≡ mostLines → ⊥) → ltb n mostLines ≡ true
-not-most n h e = lt-ltb n mostLines (omega arith)
+pub not-most : (n : ℕ) → n < suc mostCount → (n ≡ mostCount → ⊥) → ltb n mostCount ≡ true
+not-most n h e = lt-ltb n mostCount (omega arith)
 
-pub by-most : (n : ℕ) → n < suc mostLines → not (eqb n mostLines) ≡ ltb n mostLines
+pub by-most : (n : ℕ) → n < suc mostCount → not (eqb n mostCount) ≡ ltb n mostCount
 by-most n h =
     ⊎-elim
-    (λ (x : eqb n mostLines ≡ true). ap not x ∙ sym (is-most n (eqb-true n mostLines x)))
-    (λ (x : eqb n mostLines ≡ false). ap not x ∙ sym (not-most n h (eqb-false n mostLines x)))
-    (which (eqb n mostLines))
+    (λ (x : eqb n mostCount ≡ true). ap not x ∙ sym (is-most n (eqb-true n mostCount x)))
+    (λ (x : eqb n mostCount ≡ false). ap not x ∙ sym (not-most n h (eqb-false n mostCount x)))
+    (which (eqb n mostCount))
 
 -- ---- the records that were worked through
 
@@ -105,15 +108,15 @@ module _ (r : Run) (out₀ table out : List ℕ) (taken written count bad : ℕ)
   rest-size : length (run .rest) ≡ length (r .rest) - taken
   rest-size = ap length rest-is ∙ length-drop taken (r .rest)
 
-  pub goes-as : (leb (recordSize 128) (length (r .rest) - taken) && leb lineRoom (length out - written) && ltb count mostLines && ltb bad mostLines) ≡ goesOn 128 run (length out₀ - written)
-  goes-as = λ i. leb (recordSize 128) (sym rest-size i) && leb lineRoom (same-size i - written) && ltb (k .lines i) mostLines && ltb (k .refused i) mostLines
+  pub goes-as : (leb (recordSize 128) (length (r .rest) - taken) && leb lineRoom (length out - written) && ltb count mostCount && ltb bad mostCount) ≡ goesOn 128 run (length out₀ - written)
+  goes-as = λ i. leb (recordSize 128) (sym rest-size i) && leb lineRoom (same-size i - written) && ltb (k .lines i) mostCount && ltb (k .refused i) mostCount
 
-  module _ (again : (leb (recordSize 128) (length (r .rest) - taken) && leb lineRoom (length out - written) && ltb count mostLines && ltb bad mostLines) ≡ true) where
-    tests : (leb (recordSize 128) (length (r .rest) - taken) ≡ true) × (leb lineRoom (length out - written) ≡ true) × (ltb count mostLines ≡ true) × (ltb bad mostLines ≡ true)
+  module _ (again : (leb (recordSize 128) (length (r .rest) - taken) && leb lineRoom (length out - written) && ltb count mostCount && ltb bad mostCount) ≡ true) where
+    tests : (leb (recordSize 128) (length (r .rest) - taken) ≡ true) × (leb lineRoom (length out - written) ≡ true) × (ltb count mostCount ≡ true) × (ltb bad mostCount ≡ true)
     tests =
-        let front = and-left (leb (recordSize 128) (length (r .rest) - taken) && leb lineRoom (length out - written) && ltb count mostLines) (ltb bad mostLines) again in
-        let two = and-left (leb (recordSize 128) (length (r .rest) - taken) && leb lineRoom (length out - written)) (ltb count mostLines) front in
-        (and-left (leb (recordSize 128) (length (r .rest) - taken)) (leb lineRoom (length out - written)) two, and-right (leb (recordSize 128) (length (r .rest) - taken)) (leb lineRoom (length out - written)) two, and-right (leb (recordSize 128) (length (r .rest) - taken) && leb lineRoom (length out - written)) (ltb count mostLines) front, and-right (leb (recordSize 128) (length (r .rest) - taken) && leb lineRoom (length out - written) && ltb count mostLines) (ltb bad mostLines) again)
+        let front = and-left (leb (recordSize 128) (length (r .rest) - taken) && leb lineRoom (length out - written) && ltb count mostCount) (ltb bad mostCount) again in
+        let two = and-left (leb (recordSize 128) (length (r .rest) - taken) && leb lineRoom (length out - written)) (ltb count mostCount) front in
+        (and-left (leb (recordSize 128) (length (r .rest) - taken)) (leb lineRoom (length out - written)) two, and-right (leb (recordSize 128) (length (r .rest) - taken)) (leb lineRoom (length out - written)) two, and-right (leb (recordSize 128) (length (r .rest) - taken) && leb lineRoom (length out - written)) (ltb count mostCount) front, and-right (leb (recordSize 128) (length (r .rest) - taken) && leb lineRoom (length out - written) && ltb count mostCount) (ltb bad mostCount) again)
 
     pub record-there : taken + recordSize 128 ≤ length (r .rest)
     record-there = let h : recordSize 128 ≤ length (r .rest) - taken = leb-true (recordSize 128) (length (r .rest) - taken) (tests .0) in omega arith
@@ -121,11 +124,11 @@ module _ (r : Run) (out₀ table out : List ℕ) (taken written count bad : ℕ)
     pub room-there : written + lineRoom ≤ length out
     room-there = let h : lineRoom ≤ length out - written = leb-true lineRoom (length out - written) (tests .1) in omega arith
 
-    pub count-fits : count < mostLines
-    count-fits = ltb-true count mostLines (tests .2)
+    pub count-fits : count < mostCount
+    count-fits = ltb-true count mostCount (tests .2)
 
-    pub bad-fits : bad < mostLines
-    bad-fits = ltb-true bad mostLines (tests .3)
+    pub bad-fits : bad < mostCount
+    bad-fits = ltb-true bad mostCount (tests .3)
 
     -- the next record
     pub record-is : take (recordSize 128) (drop taken (r .rest)) ≡ nextRecord 128 r (k .through)
@@ -170,7 +173,7 @@ module _ (r : Run) (out₀ table out : List ℕ) (taken written count bad : ℕ)
         }
 
   -- at the end
-  pub all-done : (leb (recordSize 128) (length (r .rest) - taken) && leb lineRoom (length out - written) && ltb count mostLines && ltb bad mostLines) ≡ false → k .through ≡ blockRecords 128 r (length out₀)
+  pub all-done : (leb (recordSize 128) (length (r .rest) - taken) && leb lineRoom (length out - written) && ltb count mostCount && ltb bad mostCount) ≡ false → k .through ≡ blockRecords 128 r (length out₀)
   all-done stops =
       let none-more : recordsIn 128 (length (r .rest) - k .through) run (length out₀ - written) ≡ 0 = takes-none 128 run (length (r .rest) - k .through) (length out₀ - written) (sym goes-as ∙ stops) in
       omega (arith, k .left, none-more)
@@ -178,11 +181,16 @@ module _ (r : Run) (out₀ table out : List ℕ) (taken written count bad : ℕ)
   abbrev total : ℕ
   total = blockRecords 128 r (length out₀)
 
-  pub finished : (leb (recordSize 128) (length (r .rest) - taken) && leb lineRoom (length out - written) && ltb count mostLines && ltb bad mostLines) ≡ false
+  pub finished : (leb (recordSize 128) (length (r .rest) - taken) && leb lineRoom (length out - written) && ltb count mostCount && ltb bad mostCount) ≡ false
       → (record { taken = taken; written = written; lines = count; refused = bad } ≡ progress 128 r total) × (table ≡ worked 128 total r .cells) × (out ≡ overwrite out₀ 0 (printed 128 total r)) × ((taken ≤ length (r .rest)) × (written ≤ length out₀))
   finished stops =
       let is : k .through ≡ total = all-done stops in
       ((λ i. record { taken = k .took i; written = k .ends i; lines = k .lines i; refused = k .refused i }) ∙ ap (progress 128 r) is, k .cells ∙ ap (λ (n : ℕ). worked 128 n r .cells) is, k .text ∙ ap (λ (n : ℕ). overwrite out₀ 0 (printed 128 n r)) is, (k .there, k .room))
+
+-- the bytes of a record's message are bytes
+message-bytes : (s : List ℕ) → ((k : ℕ) → getD s k 0 < 256) → Bytes (messageIn 128 s)
+unfolding messageIn
+message-bytes s h = Bytes-take (messageSize 128 s) (drop front s) (Bytes-drop front s (all-bytes s h))
 
 -- every record keeps a sound table sound
 pub record-keeps-sound : (cells s : List ℕ) → ((n : ℕ) → getD s n 0 < 256) → sound cells ≡ true → sound (cellsAfterRecord 128 cells s) ≡ true
@@ -191,7 +199,7 @@ record-keeps-sound cells s bytes good = go (malformed 128 s)
   where
     go : (b : Bool) → sound (cond b cells (cellsAfter cells (entryOf 128 s))) ≡ true
     go true = good
-    go false = step-keeps-sound cells (entryOf 128 s) (message-bytes s (messageIn 128 s) refl bytes) good
+    go false = step-keeps-sound cells (entryOf 128 s) (message-bytes s bytes) good
 
 -- a part of bytes is bytes
 pub part-bytes : (s : List ℕ) (from size n : ℕ) → ((k : ℕ) → getD s k 0 < 256) → getD (take size (drop from s)) n 0 < 256

@@ -1,12 +1,11 @@
 -- Offering a message: what judging says of the table, what changes, and what is answered.
-use Prim.Native.Nat.{ℕ, suc, _<_}
+use Prim.Native.Nat.{ℕ}
 use mathlib.Core.Path.{_≡_, refl, sym, _∙_, ap}
 use mathlib.Core.Bool.{Bool, true, false, cond}
 use mathlib.Core.List.{List, [], _∷_}
 use types.Run.{OneOf, miss}
 use denote.Enum.Declared.{tagOf}
-use borrow.Author.Tests.{ne-eqb}
-use lib.ListN.{getD, length, drop}
+use lib.ListN.{length, drop}
 use Rattle.protocol.specs.Number.{Bytes}
 use Rattle.protocol.specs.Decode as Decode
 use Rattle.protocol.specs.Decode.{decode, openOf}
@@ -30,7 +29,10 @@ use Rattle.rules.proofs.Effect.{the-type}
 use Rattle.rules.proofs.Kept.{fresh-by, virtual-by, wanted}
 use Rattle.rules.proofs.OpenBytes.{open-alike}
 use Rattle.rules.proofs.Ranges.{effect-fits}
+use Rattle.rules.specs.Layout.{tableSize}
 use Rattle.table.specs.Judged.{refusalBy, judgedBy}
+use Rattle.table.specs.OfferAnswer.{emptyAnswer}
+use borrow.Author.Tests.{eq-eqb, ne-eqb}
 
 -- ---- what judging says of the table
 
@@ -84,15 +86,6 @@ stays cells Case.Empty t = absurd (miss others 8 tt t)
 pub unchanged : (cells : List ℕ) (e : Effect) → sound cells ≡ true → OneOf others (tagOf the-type e) → cells ≡ cellsOf (apply e (tableAt cells))
 unchanged cells e s t = sound-is cells s .0 ∙ sym (ap cellsOf (stays cells e t))
 
--- ---- what is answered
-
-module _ {A : Type 0} (n j : ℕ) (a : Answer A) (is : n ≡ j) where
-  pub refused-by : (n ≡ 0 → ⊥) → unlessRefused j a ≡ refused n 0
-  refused-by used = ap (λ (k : ℕ). unlessRefused k a) (sym is) ∙ ap (λ (b : Bool). cond b a (refused n 0)) (ne-eqb n 0 used)
-
-  pub accepted-by : n ≡ 0 → unlessRefused j a ≡ a
-  accepted-by zero-is = ap (λ (k : ℕ). unlessRefused k a) (sym is ∙ zero-is)
-
 -- ---- any message
 
 offer-sound : (cells : List ℕ) (e : Entry) → sound cells ≡ true → offerByCells cells e ≡ judgeEntry (portsOfCells cells) e
@@ -118,10 +111,14 @@ module _ (cells s : List ℕ) (way : Way) (good : sound cells ≡ true) where
   unfolding cellsAfter
   cells-by v e = ap (appliedTo cells) e
 
-pub all-bytes : (s : List ℕ) → ((k : ℕ) → getD s k 0 < 256) → Bytes s
-all-bytes [] h = tt
-all-bytes (b ∷ bs) h = (h 0, all-bytes bs (λ (k : ℕ). h (suc k)))
-
 -- the fields of an accepted message are within their lists
 pub fits-by : (s : List ℕ) (way : Way) (m : Message) (e : Effect) → Bytes s → decode way s ≡ Decode.accepted (formOf m) (valuesOf m) → e ≡ effectOf m → effectFits e ≡ true
 fits-by s way m e bytes read is = ap effectFits (is ∙ sym (ap effectOf (message-back m))) ∙ effect-fits way s bytes (formOf m) (valuesOf m) read
+
+-- ---- emptying
+
+pub empty-refused : (cells : List ℕ) → (length cells ≡ tableSize → ⊥) → emptyAnswer cells ≡ refused 9 0
+empty-refused cells h = ap (λ (b : Bool). cond b (accepted tt) (refused 9 0)) (ne-eqb (length cells) tableSize h)
+
+pub empty-done : (cells : List ℕ) → length cells ≡ tableSize → emptyAnswer cells ≡ accepted tt
+empty-done cells e = ap (λ (b : Bool). cond b (accepted tt) (refused 9 0)) (eq-eqb (length cells) tableSize e)

@@ -3,11 +3,12 @@ use Prim.Native.Nat.{ℕ, _+_, _*_, _≤_, _<_}
 use native.Mathlib.Omega.{arith}
 use mathlib.Core.Path.{_≡_, refl, sym, _∙_, ap}
 use mathlib.Core.Bool.{Bool, true, false, cond}
-use mathlib.Core.List.{List, [], _∷_, _++_, append-nil}
+use mathlib.Core.List.{List, [], _∷_}
 use mathlib.Core.Option.{Option, none, some}
 use mathlib.Core.Logic.{⊎-elim}
+use borrow.Author.Tests.{eq-eqb}
 use lib.Dec.{eqb}
-use lib.ListN.{length, getD, replicate, drop-of-length-le}
+use lib.ListN.{length, getD, replicate}
 use Rattle.rules.specs.declared.Change.the-variants.{Unchanged, Formatted, Answered, Asked}
 use Rattle.rules.specs.declared.Effect.the-variants.{ToPort, Attach, AttachVirtual, Detach, Empty}
 use Rattle.rules.specs.Layout.{places, stride, tableSize, wiringIndex, firstIndex, secondIndex, askedIndex, answeredIndex}
@@ -28,10 +29,11 @@ use Rattle.rules.proofs.Kept.{good-pair}
 use Rattle.rules.proofs.CellsSound.{sound-is, sound-length, empty-cells}
 use Rattle.rules.proofs.Laws.{table-sound}
 use Rattle.soundness.specs.Place.{placeOf, firstFree, cellOf, findPlace, freePlace}
-use Rattle.table.specs.Stores.{stored, zeroed, askedAt}
+use Rattle.stores.specs.Stores.{put, stored, setupStores, zeroed, askedAt, ifPlace, emptied, wiredAt}
+use Rattle.stores.proofs.IfPlace.{is-placed, both-wired}
 use Rattle.soundness.proofs.Places.{sixteen, find-place, free-place}
-use Rattle.table.proofs.Stores.{cell-of}
-use Rattle.table.proofs.Blocks.{wiring-stores, format-stores, setup-stores, attach-stores, virtual-stores, format-block, ask-block, answer-block, asked-block, kind-block, first-block, second-block, attach-block, virtual-block}
+use Rattle.stores.proofs.Stores.{cell-of, stored-length}
+use Rattle.table.proofs.Blocks.{wiring-stores, format-stores, attach-stores, virtual-stores, format-block, ask-block, answer-block, asked-block, kind-block, first-block, second-block, attach-block, virtual-block}
 use Rattle.table.proofs.Changes.{stands, free-below, place-change, free-change, place-remove, freed-none}
 use Rattle.table.proofs.Lifts.{change-cells, remove-cells, insert-cells, pair-cells, dissolve-cells}
 use Rattle.table.proofs.Wirings.{present, kind-unjoined, kind-virtual, kind-joined, virtual-is, wired-known, wired-as}
@@ -75,32 +77,45 @@ module _ (cells : List ℕ) (ok : sound cells ≡ true) where
   pub room-below : (place : ℕ) → fullTable t ≡ false → place ≡ firstFree t → place < places
   room-below place room at = omega (arith, free-below t room, formed .loose .size)
 
+  -- two records wired alike
+  record BothWired (one two kind partner : ℕ) (mid : List ℕ) : Type 0 where
+    is : mid ≡ stored (stored cells one (put wiringIndex kind ∷ put firstIndex partner ∷ [])) two (put wiringIndex kind ∷ put firstIndex partner ∷ [])
+    size : length mid ≡ tableSize
+
+  both-joined : (one two kind partner : ℕ) (mid : List ℕ) → one < places → two < places → mid ≡ wiredAt (wiredAt cells one kind partner) two kind partner → BothWired one two kind partner mid
+  both-joined one two kind partner mid h k e =
+      let stores = put wiringIndex kind ∷ put firstIndex partner ∷ [] in
+      let same = both-wired cells one two kind partner mid (sound-length cells ok) h k e in
+      record { is = same; size = ap length same ∙ stored-length (stored cells one stores) two stores ∙ stored-length cells one stores ∙ sound-length cells ok }
+
   -- ---- attaching
 
-  pub attach-is : (port device place : ℕ) (out : List ℕ) → place ≡ firstFree t → out ≡ stored cells place (attach-stores port device) → out ≡ cellsOf (apply (Attach port device) t)
+  pub attach-is : (port device place : ℕ) (out : List ℕ) → fullTable t ≡ false → place ≡ firstFree t → out ≡ ifPlace cells place (stored cells place (attach-stores port device)) → out ≡ cellsOf (apply (Attach port device) t)
   unfolding apply
-  attach-is port device place out at new =
-      new ∙ (λ i. stored (is i) (at i) (attach-stores port device))
+  attach-is port device place out room at new =
+      is-placed cells place (stored cells place (attach-stores port device)) (sound-length cells ok) (room-below place room at) out new ∙ (λ i. stored (is i) (at i) (attach-stores port device))
       ∙ insert-cells t (newRecord port device Unjoined) (attach-stores port device) (omega arith, (omega arith, (omega arith, tt))) (attach-block port device)
 
   pub pair-known : (a b : ℕ) → pairTest (viewOfTable t) a b ≡ true → (known (viewOfTable t a) ≡ true) × (known (viewOfTable t b) ≡ true)
   pair-known a b good = let g = good-pair t a b good in (wired-known (viewOfTable t a) Unjoined (g .one), wired-known (viewOfTable t b) Unjoined (g .two))
 
-  pub attach-virtual-is : (port device a b place one two : ℕ) (mid out : List ℕ) → pairTest (viewOfTable t) a b ≡ true → place ≡ firstFree t → one ≡ placeOf t a → two ≡ placeOf t b
-      → mid ≡ stored (stored cells one (wiring-stores (Joined port))) two (wiring-stores (Joined port))
-      → out ≡ stored mid place (virtual-stores port device a b)
+  pub attach-virtual-is : (port device a b place one two : ℕ) (mid out : List ℕ) → fullTable t ≡ false → pairTest (viewOfTable t) a b ≡ true → place ≡ firstFree t → one ≡ placeOf t a → two ≡ placeOf t b
+      → mid ≡ wiredAt (wiredAt cells one 2 port) two 2 port
+      → out ≡ ifPlace mid place (stored mid place (virtual-stores port device a b))
       → out ≡ cellsOf (apply (AttachVirtual port device a b) t)
   unfolding apply
-  attach-virtual-is port device a b place one two mid out good at at-a at-b joining new =
+  attach-virtual-is port device a b place one two mid out room good at at-a at-b joining new =
       let g = good-pair t a b good in
+      let there = pair-known a b good in
+      let both = both-joined one two 2 port mid (present-below a one (there .0) at-a) (present-below b two (there .1) at-b) joining in
       let u : Table = change a (wired (Joined port)) t in
       let v : Table = change b (wired (Joined port)) u in
       let joins : mid ≡ cellsOf v =
-      joining ∙ (λ i. stored (stored (is i) (at-a i) (wiring-stores (Joined port))) (at-b i) (wiring-stores (Joined port)))
+      both .is ∙ (λ i. stored (stored (is i) (at-a i) (wiring-stores (Joined port))) (at-b i) (wiring-stores (Joined port)))
       ∙ pair-cells t a b (Joined port) Unjoined (formed .loose) (g .one) (g .two) (g .apart) refl
       in
       let free : firstFree t ≡ firstFree v = sym (free-change u b (wired (Joined port)) ∙ free-change t a (wired (Joined port))) in
-      new ∙ (λ i. stored (joins i) ((at ∙ free) i) (virtual-stores port device a b))
+      is-placed mid place (stored mid place (virtual-stores port device a b)) (both .size) (room-below place room at) out new ∙ (λ i. stored (joins i) ((at ∙ free) i) (virtual-stores port device a b))
       ∙ insert-cells v (newRecord port device (Virtual a b)) (virtual-stores port device a b)
       (omega arith, (omega arith, (omega arith, (omega arith, (omega arith, tt))))) (virtual-block port device a b)
 
@@ -147,20 +162,23 @@ module _ (cells : List ℕ) (ok : sound cells ≡ true) where
         (λ i. stored (is i) (at i) (format-stores mode new))
         ∙ change-cells t port (onSettings (learn (Formatted mode new))) f (format-stores mode new) (formed .loose .distinct) seen-as (omega arith, tt) (format-block itself mode new h)
 
-    pub ask-is : (s : Setup) (out : List ℕ) → out ≡ stored cells place (setup-stores askedIndex s 1) → out ≡ cellsOf (apply (ToPort port (Asked s)) t)
+    abbrev below : place < places
+    below = present-below port place k at
+
+    pub ask-is : (s : Setup) (out : List ℕ) → out ≡ ifPlace cells place (stored cells place (setupStores askedIndex s 1)) → out ≡ cellsOf (apply (ToPort port (Asked s)) t)
     unfolding apply
     ask-is s out new =
-        new ∙ (λ i. stored (is i) (at i) (setup-stores askedIndex s 1))
-        ∙ change-cells t port (onSettings (learn (Asked s))) f (setup-stores askedIndex s 1) (formed .loose .distinct) seen-as
+        is-placed cells place (stored cells place (setupStores askedIndex s 1)) (sound-length cells ok) below out new ∙ (λ i. stored (is i) (at i) (setupStores askedIndex s 1))
+        ∙ change-cells t port (onSettings (learn (Asked s))) f (setupStores askedIndex s 1) (formed .loose .distinct) seen-as
         (omega arith, (omega arith, (omega arith, (omega arith, tt)))) (ask-block itself s)
 
-    pub answer-is : (s : Setup) (state : ℕ) (out : List ℕ) → state ≡ answeredState (askedAt cells place) s
-        → out ≡ stored cells place (setup-stores answeredIndex s state) → out ≡ cellsOf (apply (ToPort port (Answered s)) t)
+    pub answer-is : (s : Setup) (out : List ℕ) → out ≡ ifPlace cells place (stored cells place (setupStores answeredIndex s (answeredState (askedAt cells place) s))) → out ≡ cellsOf (apply (ToPort port (Answered s)) t)
     unfolding apply
-    answer-is s state out e new =
-        let now : state ≡ answeredState (f .settings .asked) s = e ∙ ap (λ (x : Option Setup). answeredState x s) asked-is in
-        new ∙ (λ i. stored (is i) (at i) (setup-stores answeredIndex s (now i)))
-        ∙ change-cells t port (onSettings (learn (Answered s))) f (setup-stores answeredIndex s (answeredState (f .settings .asked) s)) (formed .loose .distinct) seen-as
+    answer-is s out new =
+        let state : ℕ = answeredState (askedAt cells place) s in
+        let now : state ≡ answeredState (f .settings .asked) s = ap (λ (x : Option Setup). answeredState x s) asked-is in
+        is-placed cells place (stored cells place (setupStores answeredIndex s state)) (sound-length cells ok) below out new ∙ (λ i. stored (is i) (at i) (setupStores answeredIndex s (now i)))
+        ∙ change-cells t port (onSettings (learn (Answered s))) f (setupStores answeredIndex s (answeredState (f .settings .asked) s)) (formed .loose .distinct) seen-as
         (omega arith, (omega arith, (omega arith, (omega arith, tt)))) (answer-block itself s)
 
     -- ---- it goes
@@ -168,11 +186,11 @@ module _ (cells : List ℕ) (ok : sound cells ≡ true) where
     abbrev as-wired : (y : Wiring) → f .wiring ≡ y → wiredIn t port ≡ some y
     as-wired y e = ap wiring? seen-as ∙ ap some e
 
-    pub detach-unjoined : (out : List ℕ) → cellOf cells place wiringIndex ≡ 1 → out ≡ zeroed cells (stride * place) stride → out ≡ cellsOf (apply (Detach port) t)
+    pub detach-unjoined : (out : List ℕ) → cellOf cells place wiringIndex ≡ 1 → out ≡ ifPlace cells place (zeroed cells (stride * place) stride) → out ≡ cellsOf (apply (Detach port) t)
     unfolding apply
     detach-unjoined out e new =
         let w = as-wired Unjoined (kind-unjoined (f .wiring) (sym kind-is ∙ e)) in
-        new ∙ (λ i. zeroed (is i) (stride * at i) stride) ∙ remove-cells t port f (formed .loose .distinct) seen-as ∙ sym (ap (λ (y : Wiring). cellsOf (detachBy port y t)) (wired-as (viewOfTable t port) Unjoined w))
+        is-placed cells place (zeroed cells (stride * place) stride) (sound-length cells ok) below out new ∙ (λ i. zeroed (is i) (stride * at i) stride) ∙ remove-cells t port f (formed .loose .distinct) seen-as ∙ sym (ap (λ (y : Wiring). cellsOf (detachBy port y t)) (wired-as (viewOfTable t port) Unjoined w))
 
     pub detach-pair : cellOf cells place wiringIndex ≡ 3 → isVirtual (wiredAs (viewOfTable t port)) ≡ true
     detach-pair e = ap (λ (x : Option Facts). isVirtual (wiredAs x)) seen-as ∙ kind-virtual (f .wiring) (sym kind-is ∙ e)
@@ -204,10 +222,11 @@ module _ (cells : List ℕ) (ok : sound cells ≡ true) where
       pub second-known : known (viewOfTable t b) ≡ true
       second-known = wired-known (viewOfTable t b) (Joined port) (formed .pairs .second port a b pair)
 
-      pub dissolve-is : (one two : ℕ) (mid out : List ℕ) → one ≡ placeOf t a → two ≡ placeOf t b → mid ≡ stored (stored cells one (wiring-stores Unjoined)) two (wiring-stores Unjoined)
-          → out ≡ zeroed mid (stride * place) stride → out ≡ cellsOf (dissolveBy port (wiredAs (viewOfTable t port)) t)
+      pub dissolve-is : (one two : ℕ) (mid out : List ℕ) → one ≡ placeOf t a → two ≡ placeOf t b → mid ≡ wiredAt (wiredAt cells one 1 0) two 1 0
+          → out ≡ ifPlace mid place (zeroed mid (stride * place) stride) → out ≡ cellsOf (dissolveBy port (wiredAs (viewOfTable t port)) t)
       dissolve-is one two mid out at-a at-b freeing new =
-          new ∙ ap (λ (l : List ℕ). zeroed l (stride * place) stride) freeing
+          let both = both-joined one two 1 0 mid (present-below a one first-known at-a) (present-below b two second-known at-b) freeing in
+          is-placed mid place (zeroed mid (stride * place) stride) (both .size) below out new ∙ ap (λ (l : List ℕ). zeroed l (stride * place) stride) (both .is)
           ∙ (λ i. zeroed (stored (stored (is i) (at-a i) (wiring-stores Unjoined)) (at-b i) (wiring-stores Unjoined)) (stride * at i) stride) ∙ dissolve-cells t port a b formed pair
           ∙ sym (ap (λ (y : Wiring). cellsOf (dissolveBy port y t)) (wired-as (viewOfTable t port) (Virtual a b) pair))
 
@@ -253,22 +272,20 @@ module _ (cells : List ℕ) (ok : sound cells ≡ true) where
           ∙ place-change (change (named .a) (wired Unjoined) t) (named .b) (wired Unjoined) port
           ∙ place-change t (named .a) (wired Unjoined) port
 
-      pub detach-joined : (mid out : List ℕ) → mid ≡ cellsOf (dissolveBy v (wiredAs (viewOfTable t v)) t) → out ≡ zeroed mid (stride * place) stride → out ≡ cellsOf (apply (Detach port) t)
+      pub detach-joined : (mid out : List ℕ) → length mid ≡ tableSize → mid ≡ cellsOf (dissolveBy v (wiredAs (viewOfTable t v)) t) → out ≡ ifPlace mid place (zeroed mid (stride * place) stride) → out ≡ cellsOf (apply (Detach port) t)
       unfolding apply
-      detach-joined mid out dissolving new =
+      detach-joined mid out size dissolving new =
           let s = seen (viewOfTable rest port) Unjoined still in
           let partner = wired-as (viewOfTable t v) its (named .pair) in
           let own = wired-as (viewOfTable t port) (Joined v) joined-is in
-          new ∙ ap (λ (l : List ℕ). zeroed l (stride * place) stride) dissolving ∙ (λ i. zeroed (cellsOf (dissolveBy v (partner i) t)) (stride * (at ∙ sym stays) i) stride)
+          is-placed mid place (zeroed mid (stride * place) stride) size below out new ∙ ap (λ (l : List ℕ). zeroed l (stride * place) stride) dissolving ∙ (λ i. zeroed (cellsOf (dissolveBy v (partner i) t)) (stride * (at ∙ sym stays) i) stride)
           ∙ remove-cells rest port (s .facts) (sound-dissolve t formed v (named .a) (named .b) (named .pair) .loose .distinct) (s .is)
           ∙ sym (ap (λ (y : Wiring). cellsOf (detachBy port y t)) own ∙ ap (λ (y : Wiring). cellsOf (remove port (dissolveBy v y t))) partner)
 
 -- ---- emptying
 
-pub empty-is : (cells : List ℕ) → cellsOf (apply Empty (tableAt cells)) ≡ emptyCells
+pub empty-is : (cells out : List ℕ) → sound cells ≡ true → out ≡ emptied cells → out ≡ cellsOf (apply Empty (tableAt cells))
 unfolding apply
-empty-is cells = ap cellsOf (freed-none (tableAt cells) ∙ ap (λ (n : ℕ). replicate n none) (sixteen cells)) ∙ sym empty-cells
-
-pub clear-is : (cells out : List ℕ) → length cells ≡ tableSize → out ≡ zeroed cells 0 tableSize → out ≡ emptyCells
-unfolding zeroed emptyCells
-clear-is cells out e new = new ∙ ap (λ (l : List ℕ). replicate tableSize 0 ++ l) (drop-of-length-le cells {i = tableSize} (omega arith)) ∙ append-nil (replicate tableSize 0)
+empty-is cells out ok new =
+    new ∙ ap (λ (b : Bool). cond b emptyCells cells) (eq-eqb (length cells) tableSize (sound-length cells ok))
+    ∙ sym (ap cellsOf (freed-none (tableAt cells) ∙ ap (λ (n : ℕ). replicate n none) (sixteen cells)) ∙ sym empty-cells)

@@ -6,8 +6,6 @@ use mathlib.Core.List.{List}
 use Rattle.rules.specs.Answer.{refused}
 use Rattle.rules.specs.Cells.{sound}
 use Rattle.rules.specs.Offer.{Entry, offerByCells, appliedTo, cellsAfter, datasetByCells}
-use Rattle.table.specs.FormatAnswer.{formatByCells}
-use Rattle.table.specs.PortAnswer.{portByCells}
 
 module _ (cells : List ℕ) (unsound : sound cells ≡ false) where
   pub offer-9 : (e : Entry) → offerByCells cells e ≡ refused 9 0
@@ -21,11 +19,3 @@ module _ (cells : List ℕ) (unsound : sound cells ≡ false) where
   pub dataset-9 : (e : Entry) (number′ : ℕ) → datasetByCells cells e number′ ≡ refused 9 0
   unfolding datasetByCells
   dataset-9 e number′ = rw unsound
-
-  pub port-9 : (port : ℕ) → portByCells cells port ≡ refused 9 0
-  unfolding portByCells
-  port-9 port = rw unsound
-
-  pub format-9 : (port mode : ℕ) → formatByCells cells port mode ≡ refused 9 0
-  unfolding formatByCells
-  format-9 port mode = rw unsound

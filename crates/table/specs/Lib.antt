@@ -1,10 +1,5 @@
 pub mod BlockAnswer
-pub mod DatasetAnswer
-pub mod FormatAnswer
 pub mod Judged
-pub mod Lines
 pub mod LogLine
 pub mod Lookup
 pub mod OfferAnswer
-pub mod PortAnswer
-pub mod Stores

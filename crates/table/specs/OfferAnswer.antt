@@ -1,4 +1,4 @@
--- Document 01's answer for each case of offering a message; and what emptying a table answers and does.
+-- Document 01's answer for each case of offering a message; and what emptying a table answers.
 use Prim.Native.Nat.{ℕ}
 use mathlib.Core.Bool.{cond}
 use mathlib.Core.List.{List}
@@ -17,6 +17,3 @@ answerOf (Refused n p) = refused n p
 -- emptying asks for a table's number of cells and nothing else of them: 9
 abbrev pub emptyAnswer : List ℕ → Answer (Unit {0})
 emptyAnswer cells = cond (eqb (length cells) tableSize) (accepted tt) (refused 9 0)
-
-abbrev pub emptied : List ℕ → List ℕ
-emptied cells = cond (eqb (length cells) tableSize) emptyCells cells

@@ -1,42 +1,32 @@
 // The port table of one hub in `TABLE_SIZE` cells that the caller lends, and values read by it. Any other
 // slice of cells is refused with 9, and stays as it is.
 pub mod block;
-pub mod datasets;
+mod datasets;
 mod judge;
-mod line;
 mod lookup;
-mod number;
 pub mod offering;
-pub mod query;
 mod step;
 
 use crate::block::Block;
 use crate::block::block_sound;
-use crate::datasets::Dataset;
 use crate::datasets::dataset_sound;
 use crate::offering::Outcome;
 use crate::offering::offer_sound;
-use crate::query::ModeFormat;
-use crate::query::Port;
-use crate::query::format_of;
-use crate::query::port_of;
-use crate::step::clear;
 use protocol::Way;
 use rules::layout::TABLE_SIZE;
 use soundness::is_sound;
+use stores::clear;
+use values::datasets::Dataset;
 ghost use mathlib.Core.Path.{_≡_};
 ghost use lib.ListN.{length};
 ghost use Rattle.rules.specs.Answer.{outcome};
 ghost use Rattle.rules.specs.Offer.{cellsAfter, datasetByCells, offerByCells};
+ghost use Rattle.stores.specs.Stores.{emptied};
 ghost use Rattle.table.specs.BlockAnswer.{blockAnswer, blockCells, blockFits, blockText, runOf};
 ghost use Rattle.table.specs.BlockAnswer as BlockAnswer;
-ghost use Rattle.table.specs.DatasetAnswer as DatasetAnswer;
-ghost use Rattle.table.specs.FormatAnswer.{formatByCells};
-ghost use Rattle.table.specs.FormatAnswer as FormatAnswer;
-ghost use Rattle.table.specs.OfferAnswer.{emptied, emptyAnswer};
+ghost use Rattle.values.specs.DatasetAnswer as DatasetAnswer;
+ghost use Rattle.table.specs.OfferAnswer.{emptyAnswer};
 ghost use Rattle.table.specs.OfferAnswer as OfferAnswer;
-ghost use Rattle.table.specs.PortAnswer.{portByCells};
-ghost use Rattle.table.specs.PortAnswer as PortAnswer;
 
 // Makes an empty table of `TABLE_SIZE` cells of any content.
 pub fn empty(table: &mut [u32]) -> Outcome
@@ -73,32 +63,6 @@ pub fn dataset(table: &[u32], message: &[u8], way: Way, number: usize) -> Datase
         return dataset_sound(table, message, way, number);
     }
     Dataset::Refused {
-        number: 9,
-        place: 0,
-    }
-}
-
-// What the table says of a port, its formats left out.
-pub fn port(table: &[u32], port: u8) -> Port
-    ensures { λ r. ⌜ PortAnswer.answerOf r ≡ portByCells (now (table .entry)) port ⌝ }
-{
-    if is_sound(table) {
-        return port_of(table, port);
-    }
-    Port::Refused {
-        number: 9,
-        place: 0,
-    }
-}
-
-// What the table says of the value format of a port's mode.
-pub fn format(table: &[u32], port: u8, mode: u8) -> ModeFormat
-    ensures { λ r. ⌜ FormatAnswer.answerOf r ≡ formatByCells (now (table .entry)) port mode ⌝ }
-{
-    if is_sound(table) {
-        return format_of(table, port, mode);
-    }
-    ModeFormat::Refused {
         number: 9,
         place: 0,
     }

@@ -2,7 +2,6 @@
 use crate::judge::judged;
 use crate::step::attach;
 use crate::step::attach_virtual;
-use crate::step::clear;
 use crate::step::detach;
 use crate::step::tell;
 use codec::read;
@@ -11,6 +10,7 @@ use effects::effect_of;
 use protocol::Reading;
 use protocol::Way;
 use rules::Effect;
+use stores::clear;
 ghost use mathlib.Core.Path.{_≡_};
 ghost use mathlib.Core.Bool.{true};
 ghost use Rattle.rules.specs.Answer.{outcome};

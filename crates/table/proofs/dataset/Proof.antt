@@ -1,6 +1,6 @@
-use mathlib.Core.Path.{_≡_, refl, sym, _∙_, ap}
+use mathlib.Core.Path.{sym, _∙_}
 use borrow.Author.Needs.{needs}
-use Rattle.table.proofs.Unsound.{offer-9, cells-stay, dataset-9, port-9, format-9}
+use Rattle.table.proofs.Unsound.{dataset-9}
 use Rattle.table.proofs.dataset.Statement.{statement}
 use Rattle.table.proofs.dataset.Tie as tie
 

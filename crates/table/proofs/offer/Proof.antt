@@ -1,8 +1,8 @@
 use Rattle.rules.specs.Offer.{Entry}
-use mathlib.Core.Path.{_≡_, refl, sym, _∙_, ap}
+use mathlib.Core.Path.{sym, _∙_, ap}
 use borrow.Author.Needs.{needs}
 use Rattle.rules.specs.Answer.{outcome}
-use Rattle.table.proofs.Unsound.{offer-9, cells-stay, dataset-9, port-9, format-9}
+use Rattle.table.proofs.Unsound.{offer-9, cells-stay}
 use Rattle.table.proofs.offer.Statement.{statement}
 use Rattle.table.proofs.offer.Tie as tie
 

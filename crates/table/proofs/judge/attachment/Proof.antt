@@ -1,8 +1,8 @@
-use mathlib.Core.Bool.{Bool, cond, not}
-use mathlib.Core.Path.{_≡_, refl, sym, _∙_, ap}
+use mathlib.Core.Bool.{Bool, cond}
+use mathlib.Core.Path.{sym, _∙_, ap}
 use borrow.Author.Needs.{needs}
 use Rattle.rules.specs.Cells.{tableAt}
-use Rattle.rules.specs.Judge.{judge, present, pairTest, refusalIfFull, presentUnjoined, judgeDisconnect, widthOf, judgeValue}
+use Rattle.rules.specs.Judge.{refusalIfFull}
 use Rattle.rules.specs.Table.{fullTable}
 use Rattle.table.proofs.judge.attachment.Statement.{statement}
 use Rattle.table.proofs.judge.attachment.Tie as tie

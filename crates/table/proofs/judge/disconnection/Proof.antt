@@ -1,13 +1,13 @@
 use native.Mathlib.Omega.{arith}
-use mathlib.Core.Bool.{Bool, cond, not}
+use mathlib.Core.Bool.{Bool, cond}
 use mathlib.Core.Logic.{inl, inr}
-use mathlib.Core.Path.{_≡_, refl, sym, _∙_, ap}
+use mathlib.Core.Path.{sym, _∙_, ap}
 use borrow.Author.Needs.{needs}
-use Rattle.rules.specs.Judge.{judge, present, pairTest, refusalIfFull, presentUnjoined, judgeDisconnect, widthOf, judgeValue}
+use Rattle.rules.specs.Judge.{judgeDisconnect}
 use Rattle.rules.specs.Layout.{wiringIndex, firstIndex, secondIndex}
-use Rattle.soundness.proofs.Places.{found, free-is, nowhere}
+use Rattle.soundness.proofs.Places.{found, nowhere}
 use Rattle.soundness.specs.Place.{factsAt, cellOf}
-use Rattle.table.proofs.Records.{known-at, unjoined-at, disconnect-at, first-fails, second-fails, third-decides, physical-kind, virtual-kind, by-case, attached-11, attached-12, attached-13}
+use Rattle.table.proofs.Judging.{disconnect-at, physical-kind, virtual-kind}
 use Rattle.table.proofs.judge.disconnection.Statement.{statement}
 use Rattle.table.proofs.judge.disconnection.Tie as tie
 

@@ -1,8 +1,8 @@
-use mathlib.Core.Path.{_≡_, refl, sym, _∙_, ap}
+use mathlib.Core.Path.{sym, _∙_, ap}
 use borrow.Author.Needs.{needs}
 use borrow.Author.Tests.{eq-eqb, ne-eqb}
-use Rattle.rules.specs.Judge.{judge, present, pairTest, refusalIfFull, presentUnjoined, judgeDisconnect, widthOf, judgeValue}
-use Rattle.soundness.proofs.Places.{found, free-is, nowhere}
+use Rattle.rules.specs.Judge.{refusalIfFull}
+use Rattle.soundness.proofs.Places.{free-is}
 use Rattle.table.proofs.judge.full_refusal.Statement.{statement}
 use Rattle.table.proofs.judge.full_refusal.Tie as tie
 

@@ -1,10 +1,10 @@
-use mathlib.Core.Bool.{Bool, cond, not}
-use mathlib.Core.Path.{_≡_, refl, sym, _∙_, ap}
+use mathlib.Core.Bool.{not}
+use mathlib.Core.Path.{sym, _∙_}
 use borrow.Author.Needs.{needs}
 use lib.Dec.{eqb}
-use Rattle.rules.specs.Judge.{judge, present, pairTest, refusalIfFull, presentUnjoined, judgeDisconnect, widthOf, judgeValue}
+use Rattle.rules.specs.Judge.{presentUnjoined}
 use Rattle.rules.specs.Offer.{viewOfCells}
-use Rattle.table.proofs.Records.{known-at, unjoined-at, disconnect-at, first-fails, second-fails, third-decides, physical-kind, virtual-kind, by-case, attached-11, attached-12, attached-13}
+use Rattle.table.proofs.Judging.{first-fails, second-fails, third-decides}
 use Rattle.table.proofs.judge.is_pair.Statement.{statement}
 use Rattle.table.proofs.judge.is_pair.Tie as tie
 

@@ -1,8 +1,8 @@
-use mathlib.Core.Path.{_≡_, refl, sym, _∙_, ap}
+use mathlib.Core.Path.{sym, _∙_, ap}
 use borrow.Author.Needs.{needs}
 use Rattle.rules.specs.Facts.{known}
-use Rattle.soundness.proofs.Places.{found, free-is, nowhere}
-use Rattle.table.proofs.Records.{known-at, unjoined-at, disconnect-at, first-fails, second-fails, third-decides, physical-kind, virtual-kind, by-case, attached-11, attached-12, attached-13}
+use Rattle.soundness.proofs.Places.{found}
+use Rattle.table.proofs.Judging.{known-at}
 use Rattle.table.proofs.judge.is_present.Statement.{statement}
 use Rattle.table.proofs.judge.is_present.Tie as tie
 

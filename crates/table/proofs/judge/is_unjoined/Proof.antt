@@ -1,10 +1,10 @@
 use native.Mathlib.Omega.{arith}
-use mathlib.Core.Path.{_≡_, refl, sym, _∙_, ap}
+use mathlib.Core.Path.{sym, _∙_, ap}
 use borrow.Author.Needs.{needs}
-use Rattle.rules.specs.Judge.{judge, present, pairTest, refusalIfFull, presentUnjoined, judgeDisconnect, widthOf, judgeValue}
-use Rattle.soundness.proofs.Places.{found, free-is, nowhere}
-use Rattle.soundness.specs.Place.{factsAt, cellOf}
-use Rattle.table.proofs.Records.{known-at, unjoined-at, disconnect-at, first-fails, second-fails, third-decides, physical-kind, virtual-kind, by-case, attached-11, attached-12, attached-13}
+use Rattle.rules.specs.Judge.{presentUnjoined}
+use Rattle.soundness.proofs.Places.{found, nowhere}
+use Rattle.soundness.specs.Place.{factsAt}
+use Rattle.table.proofs.Judging.{unjoined-at}
 use Rattle.table.proofs.judge.is_unjoined.Statement.{statement}
 use Rattle.table.proofs.judge.is_unjoined.Tie as tie
 

@@ -1,9 +1,9 @@
-use mathlib.Core.Path.{_≡_, refl, sym, _∙_, ap}
+use mathlib.Core.Path.{refl, _∙_, ap}
 use borrow.Author.Needs.{needs}
 use Rattle.rules.proofs.CellsSound.{sound-length}
-use Rattle.rules.specs.Judge.{judge, present, pairTest, refusalIfFull, presentUnjoined, judgeDisconnect, widthOf, judgeValue}
+use Rattle.rules.specs.Judge.{judge, judgeValue}
 use Rattle.rules.specs.declared.ValueLookup.{ValueLookup}
-use Rattle.table.proofs.Records.{known-at, unjoined-at, disconnect-at, first-fails, second-fails, third-decides, physical-kind, virtual-kind, by-case, attached-11, attached-12, attached-13}
+use Rattle.table.proofs.Judging.{by-case}
 use Rattle.table.proofs.judge.judged.Statement.{statement}
 use Rattle.table.proofs.judge.judged.Tie as tie
 
@@ -40,8 +40,8 @@ enum-known-e-5 c = search needs
 value-lookup-requires : tie.Need-value-lookup-requires
 value-lookup-requires c κs = search needs
 
-value-requires : tie.Need-value-requires
-value-requires c κs = search needs
+value-refusal-requires : tie.Need-value-refusal-requires
+value-refusal-requires c κs = search needs
 
 enum-known-e-6 : tie.Need-enum-known-e-6
 enum-known-e-6 c = search needs
@@ -80,7 +80,7 @@ returns-5 c = let a = c .before .before .before .before .before .args in by-case
 
 returns-6 : tie.Need-returns-6
 unfolding judge
-returns-6 c = let a = c .before .before .before .before .before .before .args in by-case (a .table .now) (a .count) _ (a .e) _ (c .before .before .before .e5 .given .1) (c .value .ensures ∙ ap (λ (l : ValueLookup). judgeValue l (a .count)) (c .before .value-lookup .ensures .0))
+returns-6 c = let a = c .before .before .before .before .before .before .args in by-case (a .table .now) (a .count) _ (a .e) _ (c .before .before .before .e5 .given .1) (c .value-refusal .ensures ∙ ap (λ (l : ValueLookup). judgeValue l (a .count)) (c .before .value-lookup .ensures .0))
 
 returns-7 : tie.Need-returns-7
 unfolding judge
@@ -109,7 +109,7 @@ judged-spec =
     absent-refusal-requires-2
     enum-known-e-5
     value-lookup-requires
-    value-requires
+    value-refusal-requires
     enum-known-e-6
     disconnection-requires
     enum-known-e-7

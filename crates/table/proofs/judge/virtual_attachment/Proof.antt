@@ -1,10 +1,10 @@
-use mathlib.Core.Path.{_≡_, refl, sym, _∙_, ap}
+use mathlib.Core.Path.{sym, _∙_}
 use borrow.Author.Needs.{needs}
 use Rattle.rules.specs.Cells.{tableAt}
-use Rattle.rules.specs.Judge.{judge, present, pairTest, refusalIfFull, presentUnjoined, judgeDisconnect, widthOf, judgeValue}
+use Rattle.rules.specs.Judge.{present, pairTest, refusalIfFull}
 use Rattle.rules.specs.Offer.{viewOfCells}
 use Rattle.rules.specs.Table.{fullTable}
-use Rattle.table.proofs.Records.{known-at, unjoined-at, disconnect-at, first-fails, second-fails, third-decides, physical-kind, virtual-kind, by-case, attached-11, attached-12, attached-13}
+use Rattle.table.proofs.Judging.{attached-11, attached-12, attached-13}
 use Rattle.table.proofs.judge.virtual_attachment.Statement.{statement}
 use Rattle.table.proofs.judge.virtual_attachment.Tie as tie
 

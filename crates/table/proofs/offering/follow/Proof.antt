@@ -1,8 +1,8 @@
-use mathlib.Core.Path.{_≡_, refl, sym, _∙_, ap}
+use mathlib.Core.Path.{sym, _∙_}
 use borrow.Author.Needs.{needs}
 use Rattle.rules.proofs.CellsSound.{sound-length}
-use Rattle.table.proofs.Offers.{tell-ready, change-ready, attach-ready, virtual-ready, detach-ready, changed-as, unchanged, refused-by, accepted-by, offered-message, offered-unread, cells-by, fits-by, all-bytes}
-use Rattle.table.proofs.Steps.{found-at, present-below, detach-pair, detach-virtual, detach-unjoined, partner-virtual, detach-joined, first-known, second-known, dissolve-is, clear-is, empty-is}
+use Rattle.table.proofs.Offers.{tell-ready, change-ready, attach-ready, virtual-ready, detach-ready, changed-as, unchanged}
+use Rattle.table.proofs.Steps.{empty-is}
 use Rattle.table.proofs.offering.follow.Statement.{statement}
 use Rattle.table.proofs.offering.follow.Tie as tie
 
@@ -47,7 +47,7 @@ enum-told : tie.Need-enum-told
 enum-told c = search needs
 
 clear-requires : tie.Need-clear-requires
-clear-requires c κs = sound-length (c .before .before .before .before .args .table .now) (c .before .before .before .before .pre .0)
+clear-requires c κs = search needs
 
 same-length : tie.Need-same-length
 same-length c = search needs
@@ -92,7 +92,7 @@ returns-5 : tie.Need-returns-5
 returns-5 c =
     let a = c .before .before .before .before .before .before .before .args in
     let cells = a .table .now in
-    changed-as cells (c .before .before .clear .last .0) (a .e) _ (c .before .before .before .before .enum-told .given .1) (c .before .before .clear .ensures ∙ sym (empty-is cells))
+    changed-as cells (c .before .before .clear .last .0) (a .e) _ (c .before .before .before .before .enum-told .given .1) (empty-is cells (c .before .before .clear .last .0) (c .before .before .before .before .before .before .before .pre .0) (c .before .before .clear .ensures))
 
 returns-6 : tie.Need-returns-6
 returns-6 c =

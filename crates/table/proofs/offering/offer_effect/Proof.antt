@@ -1,8 +1,8 @@
-use mathlib.Core.Path.{_≡_, refl, sym, _∙_, ap}
+use mathlib.Core.Path.{sym, _∙_, ap}
 use borrow.Author.Needs.{needs}
 use Rattle.rules.specs.Answer.{accepted, outcome}
 use Rattle.rules.specs.Offer.{appliedTo}
-use Rattle.table.proofs.Offers.{tell-ready, change-ready, attach-ready, virtual-ready, detach-ready, changed-as, unchanged, refused-by, accepted-by, offered-message, offered-unread, cells-by, fits-by, all-bytes}
+use Rattle.values.proofs.ValueAnswers.{refused-by, accepted-by}
 use Rattle.table.proofs.offering.offer_effect.Statement.{statement}
 use Rattle.table.proofs.offering.offer_effect.Tie as tie
 

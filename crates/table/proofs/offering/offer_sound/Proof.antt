@@ -1,10 +1,11 @@
-use Prim.Native.Nat.{ℕ, _+_, _*_, _-_, _≤_, _<_}
+use Prim.Native.Nat.{ℕ, _-_}
 use native.Mathlib.Omega.{arith}
-use mathlib.Core.Path.{_≡_, refl, sym, _∙_, ap}
+use mathlib.Core.Path.{sym, _∙_, ap}
 use borrow.Author.Needs.{needs}
 use Rattle.protocol.specs.Answer.{answerOf}
-use Rattle.rules.specs.Answer.{accepted, outcome}
-use Rattle.table.proofs.Offers.{tell-ready, change-ready, attach-ready, virtual-ready, detach-ready, changed-as, unchanged, refused-by, accepted-by, offered-message, offered-unread, cells-by, fits-by, all-bytes}
+use Rattle.rules.specs.Answer.{outcome}
+use Rattle.table.proofs.Offers.{offered-message, offered-unread, cells-by, fits-by}
+use Rattle.log_lines.proofs.ValueLines.{all-bytes}
 use Rattle.table.proofs.offering.offer_sound.Statement.{statement}
 use Rattle.table.proofs.offering.offer_sound.Tie as tie
 

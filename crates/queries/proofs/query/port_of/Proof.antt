@@ -1,0 +1,146 @@
+use Prim.Native.Nat.{_<_}
+use Rattle.rules.specs.Layout.{places}
+use native.Mathlib.Omega.{arith}
+use mathlib.Core.Option.{Option}
+use mathlib.Core.Path.{refl, sym, _∙_, ap}
+use borrow.Author.Needs.{needs}
+use Rattle.rules.proofs.CellsSound.{sound-length}
+use Rattle.rules.specs.Answer.{accepted}
+use Rattle.rules.specs.Facts.{Facts}
+use Rattle.soundness.proofs.Places.{found, nowhere}
+use Rattle.soundness.specs.Place.{factsAt}
+use Rattle.soundness.proofs.Bounds.{state-small}
+use Rattle.queries.proofs.Queries.{port-sound, partners-small, answered-fits, asked-fits, port-at}
+use Rattle.soundness.proofs.Records.{device-small}
+use Rattle.queries.specs.PortAnswer.{PortFacts, portFacts}
+use Rattle.queries.proofs.query.port_of.Statement.{statement}
+use Rattle.queries.proofs.query.port_of.Tie as tie
+
+find-requires : tie.Need-find-requires
+find-requires c κs = search needs
+
+returns : tie.Need-returns
+returns c =
+    let a = c .before .before .before .args in
+    let cells = a .table .now in
+    let ok = c .before .before .before .pre in
+    let i = c .before .find .result in
+    let is = found cells (sound-length cells ok) (a .port) i (c .before .find .ensures .1) in
+    sym (ap (λ (x : Option Facts). accepted (portFacts x)) (is ∙ ap (factsAt cells) (c .if1 .taken) ∙ nowhere cells)) ∙ sym (port-sound cells (a .port) ok)
+
+wiring-at-requires : tie.Need-wiring-at-requires
+wiring-at-requires c κs =
+    let a = c .before .before .before .args in
+    let cells = a .table .now in
+    let ok = c .before .before .before .pre in
+    let i = c .before .find .result in
+    let is = found cells (sound-length cells ok) (a .port) i (c .before .find .ensures .1) in
+    let low : i < places = (omega (arith, c .before .find .ensures .0, c .if1 .left)) in
+    let k = partners-small cells i (a .port) ok low is in
+    (sound-length cells ok, low, k .first, k .second)
+
+mul-setup-at : tie.Need-mul-setup-at
+mul-setup-at c = search needs
+
+add-setup-at : tie.Need-add-setup-at
+add-setup-at c = search needs
+
+setup-at-requires : tie.Need-setup-at-requires
+setup-at-requires c κs =
+    let a = c .before .before .before .before .args in
+    let cells = a .table .now in
+    let ok = c .before .before .before .before .pre in
+    let i = c .before .before .find .result in
+    let is = found cells (sound-length cells ok) (a .port) i (c .before .before .find .ensures .1) in
+    (sound-length cells ok, omega (arith, c .before .before .find .ensures .0, c .before .if1 .left), answered-fits cells i (a .port) ok (omega (arith, c .before .before .find .ensures .0, c .before .if1 .left)) is)
+
+mul-setup-at-2 : tie.Need-mul-setup-at-2
+mul-setup-at-2 c = search needs
+
+add-setup-at-2 : tie.Need-add-setup-at-2
+add-setup-at-2 c = search needs
+
+setup-at-requires-2 : tie.Need-setup-at-requires-2
+setup-at-requires-2 c κs =
+    let a = c .before .before .before .before .before .args in
+    let cells = a .table .now in
+    let ok = c .before .before .before .before .before .pre in
+    let i = c .before .before .before .find .result in
+    let is = found cells (sound-length cells ok) (a .port) i (c .before .before .before .find .ensures .1) in
+    (sound-length cells ok, omega (arith, c .before .before .before .find .ensures .0, c .before .before .if1 .left), asked-fits cells i (a .port) ok (omega (arith, c .before .before .before .find .ensures .0, c .before .before .if1 .left)) is)
+
+mul-t9 : tie.Need-mul-t9
+mul-t9 c = search needs
+
+add-t10 : tie.Need-add-t10
+add-t10 c = search needs
+
+mul-t11 : tie.Need-mul-t11
+mul-t11 c = search needs
+
+shared-slice-read-t7 : tie.Need-shared-slice-read-t7
+shared-slice-read-t7 c = let a = c .before .before .before .before .before .before .before .args in omega (arith, sound-length (a .table .now) (c .before .before .before .before .before .before .before .pre), c .before .before .before .before .before .find .ensures .0, c .before .before .before .before .if1 .left)
+
+cast-t13 : tie.Need-cast-t13
+cast-t13 c =
+    let a = c .before .before .before .before .before .before .before .args in
+    let cells = a .table .now in
+    let ok = c .before .before .before .before .before .before .before .pre in
+    let i = c .before .before .before .before .before .find .result in
+    let is = found cells (sound-length cells ok) (a .port) i (c .before .before .before .before .before .find .ensures .1) in
+    record { fits = omega (arith, device-small cells i (a .port) ok (omega (arith, c .before .before .before .before .before .find .ensures .0, c .before .before .before .before .if1 .left)) is) }
+
+mul-t14 : tie.Need-mul-t14
+mul-t14 c = search needs
+
+add-t15 : tie.Need-add-t15
+add-t15 c = search needs
+
+mul-t16 : tie.Need-mul-t16
+mul-t16 c = search needs
+
+shared-slice-read-t18 : tie.Need-shared-slice-read-t18
+shared-slice-read-t18 c = let a = c .before .before .before .before .before .before .before .before .args in omega (arith, sound-length (a .table .now) (c .before .before .before .before .before .before .before .before .pre), c .before .before .before .before .before .before .find .ensures .0, c .before .before .before .before .before .if1 .left)
+
+cast-t19 : tie.Need-cast-t19
+cast-t19 c =
+    let a = c .before .before .before .before .before .before .before .before .args in
+    let cells = a .table .now in
+    let ok = c .before .before .before .before .before .before .before .before .pre in
+    let i = c .before .before .before .before .before .before .find .result in
+    let is = found cells (sound-length cells ok) (a .port) i (c .before .before .before .before .before .before .find .ensures .1) in
+    record { fits = omega (arith, state-small cells i (a .port) ok (omega (arith, c .before .before .before .before .before .before .find .ensures .0, c .before .before .before .before .before .if1 .left)) is) }
+
+returns-2 : tie.Need-returns-2
+returns-2 c =
+    let a = c .before .before .before .before .before .before .before .before .args in
+    let cells = a .table .now in
+    let ok = c .before .before .before .before .before .before .before .before .pre in
+    let i = c .before .before .before .before .before .before .find .result in
+    let is = found cells (sound-length cells ok) (a .port) i (c .before .before .before .before .before .before .find .ensures .1) in
+    ap (λ (x : Option PortFacts). accepted x) (port-at cells i (a .port) ok (omega (arith, c .before .before .before .before .before .before .find .ensures .0, c .before .before .before .before .before .if1 .left)) is _ _ _ _ _ refl (c .before .before .before .before .wiring-at .ensures) (c .before .before .before .setup-at .ensures) (c .before .before .setup-at2 .ensures) refl) ∙ sym (port-sound cells (a .port) ok)
+
+pub port-of-spec : {M : Type 1} → statement M
+port-of-spec =
+    tie.close
+    (tie.spec
+    find-requires
+    returns
+    wiring-at-requires
+    mul-setup-at
+    add-setup-at
+    setup-at-requires
+    mul-setup-at-2
+    add-setup-at-2
+    setup-at-requires-2
+    mul-t9
+    add-t10
+    mul-t11
+    shared-slice-read-t7
+    cast-t13
+    mul-t14
+    add-t15
+    mul-t16
+    shared-slice-read-t18
+    cast-t19
+    returns-2)

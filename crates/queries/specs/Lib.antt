@@ -1,0 +1,2 @@
+pub mod FormatAnswer
+pub mod PortAnswer

@@ -1,0 +1,39 @@
+// What a port table says of a port, and of a mode's format. Cells that are not sound are refused with 9.
+pub mod query;
+
+use crate::query::ModeFormat;
+use crate::query::Port;
+use crate::query::format_of;
+use crate::query::port_of;
+use soundness::is_sound;
+ghost use mathlib.Core.Path.{_≡_};
+ghost use Rattle.queries.specs.FormatAnswer.{formatByCells};
+ghost use Rattle.queries.specs.FormatAnswer as FormatAnswer;
+ghost use Rattle.queries.specs.PortAnswer.{portByCells};
+ghost use Rattle.queries.specs.PortAnswer as PortAnswer;
+
+// What the table says of a port, its formats left out.
+pub fn port(table: &[u32], port: u8) -> Port
+    ensures { λ r. ⌜ PortAnswer.answerOf r ≡ portByCells (now (table .entry)) port ⌝ }
+{
+    if is_sound(table) {
+        return port_of(table, port);
+    }
+    Port::Refused {
+        number: 9,
+        place: 0,
+    }
+}
+
+// What the table says of the value format of a port's mode.
+pub fn format(table: &[u32], port: u8, mode: u8) -> ModeFormat
+    ensures { λ r. ⌜ FormatAnswer.answerOf r ≡ formatByCells (now (table .entry)) port mode ⌝ }
+{
+    if is_sound(table) {
+        return format_of(table, port, mode);
+    }
+    ModeFormat::Refused {
+        number: 9,
+        place: 0,
+    }
+}

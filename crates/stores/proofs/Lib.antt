@@ -1,0 +1,4 @@
+pub mod IfPlace
+pub mod States
+pub mod Stores
+pub mod Zeros
