@@ -12,8 +12,7 @@ use lib.Seq.{length-take-le}
 use Rattle.protocol.proofs.Tests.{which}
 use Rattle.log.specs.Cutting.{Run, start, ending}
 use Rattle.log.specs.Pieces.{afterPieces}
-use Rattle.log.specs.Block.{mostLines}
-use Rattle.log.specs.Ending.{endingIn, endingText}
+use Rattle.log.specs.Ending.{endingIn, endingText, mostCount}
 use Rattle.log.proofs.Endings.{ending-of-run}
 use Rattle.logread.specs.declared.reading.Progress.{Progress}
 use Rattle.logread.specs.Reading.{Printable, someLines, wholeEnding, endingOf}
@@ -52,7 +51,7 @@ end-printable {table} {input} {p} room a {text} e = go (which none)
 
     -- nothing is printed
     none : Bool
-    none = ltb room 128 || (held && (eqb (p .lines) mostLines || eqb (p .refused) mostLines))
+    none = ltb room 128 || (held && (eqb (p .lines) mostCount || eqb (p .refused) mostCount))
 
     size : length (r .rest) ≡ p .held
     size = sym (ap (λ (x : Run). length (x .rest)) (a .reached .run)) ∙ length-take-le (p .held) input (a .reached .most)
