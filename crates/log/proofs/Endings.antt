@@ -111,9 +111,9 @@ pub none-written : (d : List ℕ) {s : List ℕ} → s ≡ [] → (_≡_ {A = �
 none-written d e = (sym (ap length e), omega arith, sym (ap (overwrite d 0) e ∙ overwrite-nothing d 0))
 
 -- the line of a short last piece, and the totals after it
-pub cut-written : (d s t : List ℕ) {u : List ℕ} {n m : ℕ} {o₁ o₂ : List ℕ} → u ≡ s ++ t → 128 ≤ length d → (n ≡ length s) × (n ≤ 24) × (o₁ ≡ overwrite d 0 s) → (m ≡ length t) × (m ≤ 56) × (o₂ ≡ overwrite o₁ n t)
+pub cut-written : (d s t : List ℕ) {u : List ℕ} (n m : ℕ) (o₁ o₂ : List ℕ) → u ≡ s ++ t → 128 ≤ length d → (n ≡ length s) × (n ≤ 24) × (o₁ ≡ overwrite d 0 s) → (m ≡ length t) × (m ≤ 56) × (o₂ ≡ overwrite o₁ n t)
     → (n + m ≡ length u) × (n + m ≤ 128) × (o₂ ≡ overwrite d 0 u)
-cut-written d s t {u} {n} {m} e h a b =
+cut-written d s t {u} n m o₁ o₂ e h a b =
     let size : length u ≡ length s + length t = ap length e ∙ length-append s t in
     let place : n ≡ 0 + length s = omega (arith, a .0) in (
       omega (arith, a .0, b .0),

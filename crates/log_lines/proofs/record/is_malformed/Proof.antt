@@ -30,7 +30,8 @@ all-zero-requires c κs = search needs
 
 returns-3 : tie.Need-returns-3
 returns-3 c =
-    wrong-zeros 128 (c .before .before .before .before .before .before .before .args .s .now) (c .before .before .before .before .before .if1 .left) (c .before .before .before .if2 .left)
+    let a = c .before .before .before .before .before .before .before .args in
+    wrong-zeros 128 (a .s .now) (c .before .before .before .before .before .if1 .left) (c .before .before .before .if2 .left)
     (sym (c .before .all-zero .ensures) ∙ not-true (c .before .all-zero .result) (c .if3 .taken))
 
 message-size-requires : tie.Need-message-size-requires
@@ -53,11 +54,14 @@ all-zero-requires-2 c κs = search needs
 
 returns-4 : tie.Need-returns-4
 returns-4 c =
+    let a = c .before .before .before .before .before .before .before .before .before .before .args in
+    let if1 = c .before .before .before .before .before .before .before .before .if1 in
+    let all-zero = c .before .before .before .before .all-zero in
     ap not (c .all-zero2 .ensures)
-    ∙ by-end 128 (c .before .before .before .before .before .before .before .before .before .before .args .s .now) (c .before .before .message-size .result)
-    (c .before .before .before .before .before .before .before .before .if1 .left)
+    ∙ by-end 128 (a .s .now) (c .before .before .message-size .result)
+    (if1 .left)
     (c .before .before .before .before .before .before .if2 .left)
-    (sym (c .before .before .before .before .all-zero .ensures) ∙ not-false (c .before .before .before .before .all-zero .result) (c .before .before .before .if3 .left))
+    (sym (all-zero .ensures) ∙ not-false (all-zero .result) (c .before .before .before .if3 .left))
     (c .before .before .message-size .ensures .0)
 
 pub is-malformed-spec : {M : Type 1} → statement M

@@ -42,8 +42,10 @@ returns-3 c =
     let c₁ = c₂ .before .before .before .before in
     let c₀ = c₁ .before .before .before .before .before in
     let a = c₀ .args in
-    cut-written (a .out .now) (numbered (a .lines) (Line.refused 19 ∷ [])) (totalText (a .lines + 1) (a .refused + 1))
-    (in-cut (length (a .out .now)) (a .lines) (a .refused) (c₀ .pre) (c₁ .before .before .before .if1 .left) (c₁ .before .before .if2 .left)) (c₀ .pre) (c₁ .put-last .ensures) (c₂ .put-total .ensures)
+    let last = c₁ .put-last in
+    let total = c₂ .put-total in
+    cut-written (a .out .now) (numbered (a .lines) (Line.refused 19 ∷ [])) (totalText (a .lines + 1) (a .refused + 1)) (last .result) (total .result) (last .last .0) (total .last .0)
+    (in-cut (length (a .out .now)) (a .lines) (a .refused) (c₀ .pre) (c₁ .before .before .before .if1 .left) (c₁ .before .before .if2 .left)) (c₀ .pre) (last .ensures) (total .ensures)
 
 pub put-cut-spec : {M : Type 1} → statement M
 put-cut-spec =

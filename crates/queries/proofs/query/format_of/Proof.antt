@@ -54,12 +54,13 @@ known-format-requires c κs = search needs
 
 returns-3 : tie.Need-returns-3
 returns-3 c =
+    let find = c .before .before .before .before .find in
     let a = c .before .before .before .before .before .before .args in
     let cells = a .table .now in
     let ok = c .before .before .before .before .before .before .pre in
-    let i = c .before .before .before .before .find .result in
-    let is = found cells (sound-length cells ok) (a .port) i (c .before .before .before .before .find .ensures .1) in
-    c .known-format .ensures ∙ sym (ap (λ (f : Option Format). accepted f) (the-format cells i (a .port) ok (omega (arith, c .before .before .before .before .find .ensures .0, c .before .before .before .if1 .left)) is (a .mode) (c .before .before .if2 .left))) ∙ sym (format-sound cells (a .port) (a .mode) ok)
+    let i = find .result in
+    let is = found cells (sound-length cells ok) (a .port) i (find .ensures .1) in
+    c .known-format .ensures ∙ sym (ap (λ (f : Option Format). accepted f) (the-format cells i (a .port) ok (omega (arith, find .ensures .0, c .before .before .before .if1 .left)) is (a .mode) (c .before .before .if2 .left))) ∙ sym (format-sound cells (a .port) (a .mode) ok)
 
 pub format-of-spec : {M : Type 1} → statement M
 format-of-spec =

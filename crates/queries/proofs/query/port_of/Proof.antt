@@ -62,12 +62,13 @@ add-setup-at-2 c = search needs
 
 setup-at-requires-2 : tie.Need-setup-at-requires-2
 setup-at-requires-2 c κs =
+    let find = c .before .before .before .find in
     let a = c .before .before .before .before .before .args in
     let cells = a .table .now in
     let ok = c .before .before .before .before .before .pre in
-    let i = c .before .before .before .find .result in
-    let is = found cells (sound-length cells ok) (a .port) i (c .before .before .before .find .ensures .1) in
-    (sound-length cells ok, omega (arith, c .before .before .before .find .ensures .0, c .before .before .if1 .left), asked-fits cells i (a .port) ok (omega (arith, c .before .before .before .find .ensures .0, c .before .before .if1 .left)) is)
+    let i = find .result in
+    let is = found cells (sound-length cells ok) (a .port) i (find .ensures .1) in
+    (sound-length cells ok, omega (arith, find .ensures .0, c .before .before .if1 .left), asked-fits cells i (a .port) ok (omega (arith, find .ensures .0, c .before .before .if1 .left)) is)
 
 mul-t9 : tie.Need-mul-t9
 mul-t9 c = search needs
@@ -79,16 +80,19 @@ mul-t11 : tie.Need-mul-t11
 mul-t11 c = search needs
 
 shared-slice-read-t7 : tie.Need-shared-slice-read-t7
-shared-slice-read-t7 c = let a = c .before .before .before .before .before .before .before .args in omega (arith, sound-length (a .table .now) (c .before .before .before .before .before .before .before .pre), c .before .before .before .before .before .find .ensures .0, c .before .before .before .before .if1 .left)
+shared-slice-read-t7 c =
+    let p = c .before .before .before .before .before .before .before .pre in
+    let a = c .before .before .before .before .before .before .before .args in omega (arith, sound-length (a .table .now) (p), c .before .before .before .before .before .find .ensures .0, c .before .before .before .before .if1 .left)
 
 cast-t13 : tie.Need-cast-t13
 cast-t13 c =
+    let find = c .before .before .before .before .before .find in
     let a = c .before .before .before .before .before .before .before .args in
     let cells = a .table .now in
     let ok = c .before .before .before .before .before .before .before .pre in
-    let i = c .before .before .before .before .before .find .result in
-    let is = found cells (sound-length cells ok) (a .port) i (c .before .before .before .before .before .find .ensures .1) in
-    record { fits = omega (arith, device-small cells i (a .port) ok (omega (arith, c .before .before .before .before .before .find .ensures .0, c .before .before .before .before .if1 .left)) is) }
+    let i = find .result in
+    let is = found cells (sound-length cells ok) (a .port) i (find .ensures .1) in
+    record { fits = omega (arith, device-small cells i (a .port) ok (omega (arith, find .ensures .0, c .before .before .before .before .if1 .left)) is) }
 
 mul-t14 : tie.Need-mul-t14
 mul-t14 c = search needs
@@ -100,25 +104,29 @@ mul-t16 : tie.Need-mul-t16
 mul-t16 c = search needs
 
 shared-slice-read-t18 : tie.Need-shared-slice-read-t18
-shared-slice-read-t18 c = let a = c .before .before .before .before .before .before .before .before .args in omega (arith, sound-length (a .table .now) (c .before .before .before .before .before .before .before .before .pre), c .before .before .before .before .before .before .find .ensures .0, c .before .before .before .before .before .if1 .left)
+shared-slice-read-t18 c =
+    let p = c .before .before .before .before .before .before .before .before .pre in
+    let a = c .before .before .before .before .before .before .before .before .args in omega (arith, sound-length (a .table .now) (p), c .before .before .before .before .before .before .find .ensures .0, c .before .before .before .before .before .if1 .left)
 
 cast-t19 : tie.Need-cast-t19
 cast-t19 c =
+    let find = c .before .before .before .before .before .before .find in
     let a = c .before .before .before .before .before .before .before .before .args in
     let cells = a .table .now in
     let ok = c .before .before .before .before .before .before .before .before .pre in
-    let i = c .before .before .before .before .before .before .find .result in
-    let is = found cells (sound-length cells ok) (a .port) i (c .before .before .before .before .before .before .find .ensures .1) in
-    record { fits = omega (arith, state-small cells i (a .port) ok (omega (arith, c .before .before .before .before .before .before .find .ensures .0, c .before .before .before .before .before .if1 .left)) is) }
+    let i = find .result in
+    let is = found cells (sound-length cells ok) (a .port) i (find .ensures .1) in
+    record { fits = omega (arith, state-small cells i (a .port) ok (omega (arith, find .ensures .0, c .before .before .before .before .before .if1 .left)) is) }
 
 returns-2 : tie.Need-returns-2
 returns-2 c =
+    let find = c .before .before .before .before .before .before .find in
     let a = c .before .before .before .before .before .before .before .before .args in
     let cells = a .table .now in
     let ok = c .before .before .before .before .before .before .before .before .pre in
-    let i = c .before .before .before .before .before .before .find .result in
-    let is = found cells (sound-length cells ok) (a .port) i (c .before .before .before .before .before .before .find .ensures .1) in
-    ap (λ (x : Option PortFacts). accepted x) (port-at cells i (a .port) ok (omega (arith, c .before .before .before .before .before .before .find .ensures .0, c .before .before .before .before .before .if1 .left)) is _ _ _ _ _ refl (c .before .before .before .before .wiring-at .ensures) (c .before .before .before .setup-at .ensures) (c .before .before .setup-at2 .ensures) refl) ∙ sym (port-sound cells (a .port) ok)
+    let i = find .result in
+    let is = found cells (sound-length cells ok) (a .port) i (find .ensures .1) in
+    ap (λ (x : Option PortFacts). accepted x) (port-at cells i (a .port) ok (omega (arith, find .ensures .0, c .before .before .before .before .before .if1 .left)) is _ _ _ _ _ refl (c .before .before .before .before .wiring-at .ensures) (c .before .before .before .setup-at .ensures) (c .before .before .setup-at2 .ensures) refl) ∙ sym (port-sound cells (a .port) ok)
 
 pub port-of-spec : {M : Type 1} → statement M
 port-of-spec =

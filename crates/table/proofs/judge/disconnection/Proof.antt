@@ -33,24 +33,27 @@ shared-slice-read-wiring c = search needs
 
 returns-2 : tie.Need-returns-2
 returns-2 c =
+    let find = c .before .before .before .find in
     let a = c .before .before .before .before .before .args in
     let t = a .table .now in
-    let i = c .before .before .before .find .result in
-    sym (ap judgeDisconnect (found (a .table .now) (c .before .before .before .before .before .pre) (a .port) (c .before .before .before .find .result) (c .before .before .before .find .ensures .1)) ∙ disconnect-at t i (omega (arith, c .before .before .before .find .ensures .0, c .before .before .if1 .left)) ∙ ap (λ (b : Bool). cond b 0 12) (physical-kind (cellOf t i wiringIndex) (cellOf t i firstIndex) (cellOf t i secondIndex) (inl (c .if2 .taken))))
+    let i = find .result in
+    sym (ap judgeDisconnect (found (a .table .now) (c .before .before .before .before .before .pre) (a .port) (find .result) (find .ensures .1)) ∙ disconnect-at t i (omega (arith, find .ensures .0, c .before .before .if1 .left)) ∙ ap (λ (b : Bool). cond b 0 12) (physical-kind (cellOf t i wiringIndex) (cellOf t i firstIndex) (cellOf t i secondIndex) (inl (c .if2 .taken))))
 
 returns-3 : tie.Need-returns-3
 returns-3 c =
+    let find = c .before .before .before .before .find in
     let a = c .before .before .before .before .before .before .args in
     let t = a .table .now in
-    let i = c .before .before .before .before .find .result in
-    sym (ap judgeDisconnect (found (a .table .now) (c .before .before .before .before .before .before .pre) (a .port) (c .before .before .before .before .find .result) (c .before .before .before .before .find .ensures .1)) ∙ disconnect-at t i (omega (arith, c .before .before .before .before .find .ensures .0, c .before .before .before .if1 .left)) ∙ ap (λ (b : Bool). cond b 0 12) (physical-kind (cellOf t i wiringIndex) (cellOf t i firstIndex) (cellOf t i secondIndex) (inr (c .if3 .taken))))
+    let i = find .result in
+    sym (ap judgeDisconnect (found (a .table .now) (c .before .before .before .before .before .before .pre) (a .port) (find .result) (find .ensures .1)) ∙ disconnect-at t i (omega (arith, find .ensures .0, c .before .before .before .if1 .left)) ∙ ap (λ (b : Bool). cond b 0 12) (physical-kind (cellOf t i wiringIndex) (cellOf t i firstIndex) (cellOf t i secondIndex) (inr (c .if3 .taken))))
 
 returns-4 : tie.Need-returns-4
 returns-4 c =
+    let find = c .before .before .before .before .find in
     let a = c .before .before .before .before .before .before .args in
     let t = a .table .now in
-    let i = c .before .before .before .before .find .result in
-    sym (ap judgeDisconnect (found (a .table .now) (c .before .before .before .before .before .before .pre) (a .port) (c .before .before .before .before .find .result) (c .before .before .before .before .find .ensures .1)) ∙ disconnect-at t i (omega (arith, c .before .before .before .before .find .ensures .0, c .before .before .before .if1 .left)) ∙ ap (λ (b : Bool). cond b 0 12) (virtual-kind (cellOf t i wiringIndex) (cellOf t i firstIndex) (cellOf t i secondIndex) (c .before .if2 .left) (c .if3 .left)))
+    let i = find .result in
+    sym (ap judgeDisconnect (found (a .table .now) (c .before .before .before .before .before .before .pre) (a .port) (find .result) (find .ensures .1)) ∙ disconnect-at t i (omega (arith, find .ensures .0, c .before .before .before .if1 .left)) ∙ ap (λ (b : Bool). cond b 0 12) (virtual-kind (cellOf t i wiringIndex) (cellOf t i firstIndex) (cellOf t i secondIndex) (c .before .if2 .left) (c .if3 .left)))
 
 pub disconnection-spec : {M : Type 1} → statement M
 disconnection-spec =
