@@ -35,6 +35,17 @@ fn spell(out: &mut [u8], at: usize, k: usize, n: u64)
     out[at] = 48 + rest as u8;
 }
 
+// Puts a number's decimal digits at an index, where there is room for any number, and answers how many
+// there are.
+pub(crate) fn put_digits(out: &mut [u8], at: usize, n: u64) -> usize
+    requires { ⌜ at + 20 ≤ length (now out) ⌝ }
+    ensures { λ r. ⌜ (r ≡ length (Decimal.decimal n)) × (r ≤ 20) × (now (out .exit) ≡ overwrite (now (out .entry)) at (Decimal.decimal n)) ⌝ }
+{
+    let k = places(n);
+    spell(out, at, k, n);
+    k
+}
+
 // Puts a number's decimal digits at an index, where they fit, and answers how many there are.
 pub fn put_decimal(out: &mut [u8], at: usize, n: u64) -> usize
     ensures { λ r. ⌜ (r ≡ length (Decimal.decimal n)) × (r ≤ 20) × (now (out .exit) ≡ overwriteIfRoom (now (out .entry)) at (Decimal.decimal n)) ⌝ }
