@@ -1,9 +1,8 @@
 -- Blocks one after the other, and a log in pieces.
-use Prim.Native.Nat.{ℕ, zero, suc, _+_, _*_, _-_, _/_, _≤_, _<_}
+use Prim.Native.Nat.{ℕ, zero, suc, _+_, _*_, _-_, _<_}
 use native.Mathlib.Nat.{add-zero, zero-mul, div-mul-le-self, lt-div-mul-add}
-use native.Mathlib.Numerals.{add-one}
 use native.Mathlib.Omega.{arith}
-use mathlib.Core.Path.{_≡_, refl, sym, _∙_, ap}
+use mathlib.Core.Path.{_≡_, sym, _∙_, ap}
 use mathlib.Core.List.{List, [], _∷_, _++_, append-assoc, append-nil}
 use lib.ListN.{length, drop, length-drop}
 use Rattle.log.specs.Record.{recordSize}
@@ -12,7 +11,7 @@ use Rattle.log.specs.Cutting.{Run, worked, printed, ending}
 use Rattle.log.specs.Pieces.{withMore, allWorked, allPrinted, afterPieces, piecesText, joined}
 use Rattle.log.proofs.Cutting.{closing, outputFrom, some-worked, any-cutting-from}
 use Rattle.log.proofs.Lines.{linesFrom}
-use Rattle.log.proofs.OneMore.{run-next, text-next, printed-one, nextLine}
+use Rattle.log.proofs.OneMore.{run-next, text-next, printed-one}
 
 module _ (part : ℕ) where
   none-worked : (r : Run) → worked part 0 r ≡ r

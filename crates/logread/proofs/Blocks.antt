@@ -1,10 +1,10 @@
 -- A block that was worked through: what it took, and the text that it left.
-use Prim.Native.Nat.{ℕ, zero, suc, _+_, _*_, _-_, _/_, _≤_, _<_}
+use Prim.Native.Nat.{ℕ, zero, suc, _*_, _-_, _≤_, _<_}
 use native.Mathlib.Omega.{arith}
-use mathlib.Core.Path.{_≡_, refl, sym, _∙_, ap, subst}
-use mathlib.Core.Bool.{Bool, true, false}
+use mathlib.Core.Path.{_≡_, sym, _∙_, ap, subst}
+use mathlib.Core.Bool.{Bool, true}
 use mathlib.Core.List.{List}
-use lib.ListN.{length, getD, take, drop}
+use lib.ListN.{length, getD, take}
 use Rattle.protocol.specs.Overwrite.{overwrite}
 use Rattle.rules.specs.Answer.{Answer, refused, accepted}
 use Rattle.rules.specs.Cells.{sound}
@@ -17,7 +17,6 @@ use Rattle.table.specs.BlockAnswer.{answerOf, blockAnswer, blockCells, blockFit
 use Rattle.table.specs.declared.block.Block.{Block}
 use Rattle.table.specs.declared.block.Block.the-variants as Block'
 use Rattle.table.proofs.LogBlocks.{sound-block, record-keeps-sound, part-bytes}
-use Rattle.logread.specs.declared.reading.Taken.{Taken}
 use Rattle.logread.specs.Reading.{BlockDone, Printable, someLines}
 use Rattle.logread.proofs.Moving.{front-text}
 

@@ -1,11 +1,11 @@
 -- The run at which the program stands: after the records that were there, after a piece, and after all pieces so far.
-use Prim.Native.Nat.{ℕ, zero, suc, _+_, _*_, _-_, _≤_, _<_}
+use Prim.Native.Nat.{ℕ, _+_, _*_, _-_, _≤_}
 use native.Mathlib.Omega.{arith}
 use mathlib.Core.Path.{_≡_, refl, sym, _∙_, ap, subst}
 use mathlib.Core.Bool.{Bool, true, false, not}
 use mathlib.Core.List.{List, [], _∷_, _++_}
-use lib.ListN.{length, take, drop, length-drop}
-use lib.Seq.{length-take-le, take-add, drop-at, take-take}
+use lib.ListN.{length, take, drop}
+use lib.Seq.{length-take-le, take-add, drop-at}
 use Rattle.protocol.specs.Overwrite.{overwrite}
 use Rattle.protocol.proofs.Overwrite.{overwrite-length}
 use Rattle.rules.specs.Cells.{emptyCells, sound}

@@ -11,7 +11,7 @@ use lib.ListN.{length}
 use Rattle.protocol.specs.Form.{upFrom}
 use Rattle.protocol.specs.declared.Way.the-variants.{Down, Up}
 use Rattle.rules.specs.Answer.{Answer, refused, accepted, outcome}
-use Rattle.rules.specs.Effect.{Effect, setup, Formatted}
+use Rattle.rules.specs.Effect.{setup, Formatted}
 use Rattle.rules.specs.Facts.{Setup, Format, Wiring, Unjoined, Joined, Virtual, Facts}
 use Rattle.rules.specs.Judge.{widthOf, judgeDisconnect}
 use Rattle.rules.specs.Learn.{bareSettings, learn}

@@ -6,7 +6,6 @@ use lib.Dec.{eqb}
 use lib.ListN.{length}
 use Rattle.rules.specs.Layout.{tableSize}
 use Rattle.rules.specs.Answer.{Answer, refused, accepted}
-use Rattle.rules.specs.Cells.{emptyCells}
 use Rattle.table.specs.declared.offering.Outcome.{Outcome}
 use Rattle.table.specs.declared.offering.Outcome.the-variants.{Accepted, Refused}
 

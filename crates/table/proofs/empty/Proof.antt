@@ -1,6 +1,4 @@
-use mathlib.Core.Path.{refl, sym, ap}
-use mathlib.Core.Bool.{Bool, cond}
-use borrow.Author.Tests.{eq-eqb, ne-eqb}
+use mathlib.Core.Path.{sym}
 use Rattle.table.proofs.Offers.{empty-refused, empty-done}
 use Rattle.stores.proofs.Zeros.{none-zeroed}
 use borrow.Author.Needs.{needs}

@@ -26,7 +26,9 @@ same-length : tie.Need-same-length
 same-length c = search needs
 
 returns : tie.Need-returns
-returns c = (take-put (c .before .before .before .before .before .before .before .before .args .held) (length (c .before .before .before .before .before .before .before .before .args .input .now) - c .before .before .before .before .before .before .before .before .args .held) (c .before .before .before .before .before .before .before .before .args .input .now) (c .before .before .before .before .read .last .1 .0) (c .before .before .before .before .before .before .before .before .pre), tt)
+returns c =
+    let a = c .before .before .before .before .before .before .before .before .args in
+    (take-put (a .held) (length (a .input .now) - a .held) (a .input .now) (c .before .before .before .before .read .last .1 .0) (c .before .before .before .before .before .before .before .before .pre), tt)
 
 sub-count : tie.Need-sub-count
 sub-count c = search needs
@@ -44,17 +46,22 @@ same-length-2 : tie.Need-same-length-2
 same-length-2 c = search needs
 
 returns-2 : tie.Need-returns-2
-returns-2 c = (take-put (c .before .before .before .before .before .before .before .before .before .before .before .args .held) (length (c .before .before .before .before .before .before .before .before .before .before .before .args .input .now) - c .before .before .before .before .before .before .before .before .before .before .before .args .held) (c .before .before .before .before .before .before .before .before .before .before .before .args .input .now) (c .before .before .before .before .before .before .before .read .last .1 .0) (c .before .before .before .before .before .before .before .before .before .before .before .pre), tt)
+returns-2 c =
+    let a = c .before .before .before .before .before .before .before .before .before .before .before .args in
+    (take-put (a .held) (length (a .input .now) - a .held) (a .input .now) (c .before .before .before .before .before .before .before .read .last .1 .0) (c .before .before .before .before .before .before .before .before .before .before .before .pre), tt)
 
 same-length-3 : tie.Need-same-length-3
 same-length-3 c = search needs
 
 returns-3 : tie.Need-returns-3
-returns-3 c = (
-  take-put (c .before .before .before .before .before .before .before .before .before .before .before .args .held) (length (c .before .before .before .before .before .before .before .before .before .before .before .args .input .now) - c .before .before .before .before .before .before .before .before .before .before .before .args .held) (c .before .before .before .before .before .before .before .before .before .before .before .args .input .now) (c .before .before .before .before .before .before .before .read .last .1 .0) (c .before .before .before .before .before .before .before .before .before .before .before .pre),
-  let size = same-len-mid (c .before .before .before .before .before .before .before .before .before .before .before .args .held) (length (c .before .before .before .before .before .before .before .before .before .before .before .args .input .now) - c .before .before .before .before .before .before .before .before .before .before .before .args .held) (c .before .before .before .before .before .before .before .before .before .before .before .args .input .now) (c .before .before .before .before .before .before .before .read .last .1 .0) (c .before .before .before .before .before .before .input .given .0) in
-      subst (λ (n : ℕ). c .before .before .before .before .before .before .before .before .before .before .before .args .held + c .before .count .result ≤ n) size (part-bound (c .before .before .before .before .before .before .before .before .before .before .before .args .held) (putMid (c .before .before .before .before .before .before .before .before .before .before .before .args .held) (length (c .before .before .before .before .before .before .before .before .before .before .before .args .input .now) - c .before .before .before .before .before .before .before .before .before .before .before .args .held) (c .before .before .before .before .before .before .before .before .before .before .before .args .input .now) (c .before .before .before .before .before .before .before .read .last .1 .0)) (c .before .count .result) (subst (λ (n : ℕ). c .before .before .before .before .before .before .before .before .before .before .before .args .held ≤ n) (sym size) (c .before .before .before .before .before .before .before .before .before .before .before .pre)) (c .before .count .ensures .0 .0)),
-)
+returns-3 c =
+    let a = c .before .before .before .before .before .before .before .before .before .before .before .args in
+    let read = c .before .before .before .before .before .before .before .read in
+    let pre = c .before .before .before .before .before .before .before .before .before .before .before .pre in (
+      take-put (a .held) (length (a .input .now) - a .held) (a .input .now) (read .last .1 .0) (pre),
+      let size = same-len-mid (a .held) (length (a .input .now) - a .held) (a .input .now) (read .last .1 .0) (c .before .before .before .before .before .before .input .given .0) in
+          subst (λ (n : ℕ). a .held + c .before .count .result ≤ n) size (part-bound (a .held) (putMid (a .held) (length (a .input .now) - a .held) (a .input .now) (read .last .1 .0)) (c .before .count .result) (subst (λ (n : ℕ). a .held ≤ n) (sym size) (pre)) (c .before .count .ensures .0 .0)),
+    )
 
 pub fetch-spec : {M : Type 1} → statement M
 fetch-spec =

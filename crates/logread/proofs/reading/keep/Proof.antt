@@ -25,10 +25,14 @@ add-input : tie.Need-add-input Inv-loop μ-loop
 add-input c = search needs
 
 slice-read-input : tie.Need-slice-read-input Inv-loop μ-loop
-slice-read-input c = omega (arith, c .before .loop-test .taken, filled-length (c .before .before .loop .inv .filled), c .before .before .before .pre .0, c .before .before .before .pre .1)
+slice-read-input c =
+    let pre = c .before .before .before .pre in
+    omega (arith, c .before .loop-test .taken, filled-length (c .before .before .loop .inv .filled), pre .0, pre .1)
 
 slice-write-input : tie.Need-slice-write-input Inv-loop μ-loop
-slice-write-input c = omega (arith, c .before .loop-test .taken, filled-length (c .before .before .loop .inv .filled), c .before .before .before .pre .0, c .before .before .before .pre .1)
+slice-write-input c =
+    let pre = c .before .before .before .pre in
+    omega (arith, c .before .loop-test .taken, filled-length (c .before .before .loop .inv .filled), pre .0, pre .1)
 
 add-i : tie.Need-add-i Inv-loop μ-loop
 add-i c = search needs
@@ -38,16 +42,19 @@ loop-less c = omega (arith, c .before .loop-test .taken)
 
 loop-again : tie.Need-loop-again Inv-loop μ-loop
 loop-again c =
+    let pre = c .before .before .before .pre in
+    let l = c .before .before .loop in
     let a = c .before .before .before .args in
-    moved-one (a .input .now) (a .from) (a .to) (c .before .before .before .pre .0) (c .before .before .before .pre .1) (c .before .before .loop .input) (c .before .before .loop .i) (c .before .before .loop .inv) (c .before .loop-test .taken)
+    moved-one (a .input .now) (a .from) (a .to) (pre .0) (pre .1) (l .input) (l .i) (l .inv) (c .before .loop-test .taken)
 
 same-length : tie.Need-same-length Inv-loop μ-loop
 same-length c = filled-length (c .before .loop .inv .filled)
 
 returns : tie.Need-returns Inv-loop μ-loop
 returns c =
+    let pre = c .before .before .pre in
     let a = c .before .before .args in
-    copied-all (c .before .loop .inv) (omega (arith, c .loop-test .left, kept-length (a .input .now) (a .from) (a .to) (c .before .before .pre .0) (c .before .before .pre .1)))
+    copied-all (c .before .loop .inv) (omega (arith, c .loop-test .left, kept-length (a .input .now) (a .from) (a .to) (pre .0) (pre .1)))
 
 pub keep-spec : {M : Type 1} → statement M
 keep-spec =

@@ -22,10 +22,11 @@ slice-reshare-prefix-print c =
 
 slice-aggregate-print : tie.Need-slice-aggregate-print
 slice-aggregate-print c =
+    let taken = c .before .before .taken in
     let a = c .before .before .before .before .before .before .before .before .before .before .before .before .before .before .args in
     let r = runOf (a .table .now) (a .lines) (a .refused) (a .input .now) in
     let b = c .before .before .before .before .before .before .before .before .read-block in
-    sym (length-take-le (c .before .before .taken .given .0 .1 .0) (b .last .1 .1 .1 .1 .0) (subst (λ (n : ℕ). c .before .before .taken .given .0 .1 .0 ≤ n) (sym (c .before .before .before .before .before .out .given)) (written-most r (a .out .now) (c .before .before .before .before .before .before .before .before .before .before .before .before .before .before .pre) (b .result) (b .ensures .0) (c .before .before .taken .given .1) (b .ensures .3))))
+    sym (length-take-le (taken .given .0 .1 .0) (b .last .1 .1 .1 .1 .0) (subst (λ (n : ℕ). taken .given .0 .1 .0 ≤ n) (sym (c .before .before .before .before .before .out .given)) (written-most r (a .out .now) (c .before .before .before .before .before .before .before .before .before .before .before .before .before .before .pre) (b .result) (b .ensures .0) (taken .given .1) (b .ensures .3))))
 
 print-requires : tie.Need-print-requires
 print-requires c κs =

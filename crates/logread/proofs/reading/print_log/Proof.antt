@@ -22,8 +22,9 @@ loop-holds c =
 
 step-requires : tie.Need-step-requires Inv-loop μ-loop
 step-requires c κs =
-    let a = c .before .before .before .before .before .loop .inv .0 .after (c .before .before .before .before .before .loop .inv .0 .on (c .before .before .before .if1 .taken)) in
-    (stands-good a, subst (λ (n : ℕ). lineRoom ≤ n) (sym (c .before .before .before .before .before .loop .inv .3)) (c .before .before .before .before .before .before .before .before .before .before .pre .1), stands-most a)
+    let l = c .before .before .before .before .before .loop in
+    let a = l .inv .0 .after (l .inv .0 .on (c .before .before .before .if1 .taken)) in
+    (stands-good a, subst (λ (n : ℕ). lineRoom ≤ n) (sym (l .inv .3)) (c .before .before .before .before .before .before .before .before .before .before .pre .1), stands-most a)
 
 sub-turns : tie.Need-sub-turns Inv-loop μ-loop
 sub-turns c = c .before .before .before .before .before .before .before .before .before .before .before .loop-test .taken
@@ -33,20 +34,27 @@ loop-less c = omega (arith, c .before .before .before .before .before .before .b
 
 loop-again : tie.Need-loop-again Inv-loop μ-loop
 loop-again c =
-    let a = c .before .before .before .before .before .before .before .before .before .before .before .before .loop .inv .0 .after (c .before .before .before .before .before .before .before .before .before .before .before .before .loop .inv .0 .on (c .before .before .before .before .before .before .before .before .before .before .if1 .taken)) in
-    (standing-next a (c .before .before .before .before .before .before .step .ensures), c .before .before .before .before .before .table .given ∙ c .before .before .before .before .before .before .before .before .before .before .before .before .loop .inv .1, c .before .before .before .input .given ∙ c .before .before .before .before .before .before .before .before .before .before .before .before .loop .inv .2, c .before .out .given ∙ c .before .before .before .before .before .before .before .before .before .before .before .before .loop .inv .3)
+    let l = c .before .before .before .before .before .before .before .before .before .before .before .before .loop in
+    let a = l .inv .0 .after (l .inv .0 .on (c .before .before .before .before .before .before .before .before .before .before .if1 .taken)) in
+    (standing-next a (c .before .before .before .before .before .before .step .ensures), c .before .before .before .before .before .table .given ∙ l .inv .1, c .before .before .before .input .given ∙ l .inv .2, c .before .out .given ∙ l .inv .3)
 
 put-end-requires : tie.Need-put-end-requires Inv-loop μ-loop
 put-end-requires c κs = tt
 
 slice-reshare-prefix-print : tie.Need-slice-reshare-prefix-print Inv-loop μ-loop
-slice-reshare-prefix-print c = subst (λ (n : ℕ). c .before .before .put-end .result ≤ n) (sym (c .before .out2 .given)) (c .before .before .put-end .ensures .0)
+slice-reshare-prefix-print c =
+    let put-end = c .before .before .put-end in
+    subst (λ (n : ℕ). put-end .result ≤ n) (sym (c .before .out2 .given)) (put-end .ensures .0)
 
 slice-aggregate-print : tie.Need-slice-aggregate-print Inv-loop μ-loop
-slice-aggregate-print c = sym (length-take-le (c .before .before .before .put-end .result) (c .before .before .before .put-end .last .0) (subst (λ (n : ℕ). c .before .before .before .put-end .result ≤ n) (sym (c .before .before .out2 .given)) (c .before .before .before .put-end .ensures .0)))
+slice-aggregate-print c =
+    let put-end = c .before .before .before .put-end in
+    sym (length-take-le (put-end .result) (put-end .last .0) (subst (λ (n : ℕ). put-end .result ≤ n) (sym (c .before .before .out2 .given)) (put-end .ensures .0)))
 
 print-requires : tie.Need-print-requires Inv-loop μ-loop
-print-requires c κs = end-printable (length (c .before .before .before .before .before .before .before .before .loop .out)) (c .before .before .before .before .before .before .before .before .loop .inv .0 .after (not-failed (c .before .before .before .before .before .before .before .before .loop .p .«has_failed») (c .before .before .before .before .before .if2 .taken))) (c .before .before .before .put-end .ensures .1)
+print-requires c κs =
+    let l = c .before .before .before .before .before .before .before .before .loop in
+    end-printable (length (l .out)) (l .inv .0 .after (not-failed (l .p .«has_failed») (c .before .before .before .before .before .if2 .taken))) (c .before .before .before .put-end .ensures .1)
 
 same-length : tie.Need-same-length Inv-loop μ-loop
 same-length c = c .before .before .before .before .before .before .before .before .before .loop .inv .1

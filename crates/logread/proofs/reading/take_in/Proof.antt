@@ -9,15 +9,18 @@ slice-reshare-prefix-print-records : tie.Need-slice-reshare-prefix-print-records
 slice-reshare-prefix-print-records c = search needs
 
 slice-aggregate-print-records : tie.Need-slice-aggregate-print-records
-slice-aggregate-print-records c = sym (length-take-le (c .before .before .before .before .before .args .end) (c .before .before .before .before .before .args .input .now) (c .before .before .before .before .before .pre .2))
+slice-aggregate-print-records c =
+    let a = c .before .before .before .before .before .args in
+    sym (length-take-le (a .end) (a .input .now) (c .before .before .before .before .before .pre .2))
 
 print-records-requires : tie.Need-print-records-requires
 print-records-requires c κs = search needs
 
 keep-requires : tie.Need-keep-requires
 keep-requires c κs =
+    let pre = c .before .before .before .before .before .before .before .before .before .before .before .before .pre in
     let a = c .before .before .before .before .before .before .before .before .before .before .before .before .args in
-    (taken-most (a .table .now) (a .p .lines) (a .p .refused) (a .input .now) (a .end) (c .before .before .before .before .before .before .before .before .before .before .before .before .pre .2) (c .before .before .before .before .before .print-records .ensures), c .before .before .before .before .before .before .before .before .before .before .before .before .pre .2)
+    (taken-most (a .table .now) (a .p .lines) (a .p .refused) (a .input .now) (a .end) (pre .2) (c .before .before .before .before .before .print-records .ensures), pre .2)
 
 sub-t16 : tie.Need-sub-t16
 sub-t16 c =

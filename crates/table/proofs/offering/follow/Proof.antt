@@ -1,6 +1,4 @@
-use mathlib.Core.Path.{sym, _∙_}
 use borrow.Author.Needs.{needs}
-use Rattle.rules.proofs.CellsSound.{sound-length}
 use Rattle.table.proofs.Offers.{tell-ready, change-ready, attach-ready, virtual-ready, detach-ready, changed-as, unchanged}
 use Rattle.table.proofs.Steps.{empty-is}
 use Rattle.table.proofs.offering.follow.Statement.{statement}
