@@ -2,7 +2,7 @@
 use Prim.Native.Nat.{ℕ, zero, suc, _+_, _*_, _-_, _<_}
 use native.Mathlib.Nat.{add-zero, zero-mul, div-mul-le-self, lt-div-mul-add}
 use native.Mathlib.Omega.{arith}
-use mathlib.Core.Path.{_≡_, sym, _∙_, ap}
+use mathlib.Core.Path.{_≡_, refl, sym, _∙_, ap}
 use mathlib.Core.List.{List, [], _∷_, _++_, append-assoc, append-nil}
 use lib.ListN.{length, drop, length-drop}
 use Rattle.log.specs.Record.{recordSize}
@@ -57,7 +57,9 @@ module _ (part : ℕ) where
   pieces-from r (s ∷ pieces) h =
       let there : Run = withMore r s in
       let after : Run = allWorked part there in
-      append-assoc (allPrinted part there) (piecesText part after pieces) (ending (afterPieces part after pieces))
+      let text : piecesText part r (s ∷ pieces) ≡ allPrinted part there ++ piecesText part after pieces = refl in
+      ap (λ (x : List ℕ). x ++ ending (afterPieces part after pieces)) text
+      ∙ append-assoc (allPrinted part there) (piecesText part after pieces) (ending (afterPieces part after pieces))
       ∙ ap (λ (x : List ℕ). allPrinted part there ++ x) (pieces-from after pieces (rest-short (there .rest)))
       ∙ some-worked part (records part (there .rest)) there (joined pieces) (div-mul-le-self (length (there .rest)) (recordSize part))
       ∙ ap (λ (x : List ℕ). closing (r .lines) (r .refused) (linesFrom part (r .cells) x)) (append-assoc (r .rest) s (joined pieces))

@@ -30,8 +30,8 @@ fn is_option(argument: &[u8]) -> bool {
     argument[0] == b'-'
 }
 
-// What the one argument asks for.
-fn follow(argument: &[u8]) {
+// Does what the one argument asks for: it names a file, or is the option.
+fn run_with(argument: &[u8]) {
     if same(argument, b"--help") {
         print_usage();
         return;
@@ -48,15 +48,15 @@ fn follow(argument: &[u8]) {
     read_from(fd, argument);
 }
 
-// Follows the last argument where it is the only one; else it is one too many.
-fn follow_last(last: usize, buffer: &mut [u8]) {
+// The last argument, where it is the only one; else it is one too many.
+fn run_with_last(last: usize, buffer: &mut [u8]) {
     let size = os::arg(last, buffer);
     if os::errno() != 0 {
         fail(b"argument");
         return;
     }
     if last == 1 {
-        follow(&buffer[..size]);
+        run_with(&buffer[..size]);
     } else {
         tell(b"one argument too many: ", &buffer[..size]);
     }
@@ -69,5 +69,5 @@ fn main() {
         return;
     }
     let mut buffer = io::buffer();
-    follow_last(count - 1, &mut buffer);
+    run_with_last(count - 1, &mut buffer);
 }
