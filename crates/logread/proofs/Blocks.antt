@@ -62,14 +62,18 @@ module _ (r : Run) (out : List ℕ) (good : sound (r .cells) ≡ true) (b : Bloc
         ∙ ap (λ (p : Table.Progress). take (p .written) (overwrite out 0 (printed 128 (count r out) r))) answered
         ∙ front-text out (printed 128 (count r out) r))
 
-    pub block-done : {table : List ℕ} {failed : Bool} → table ≡ blockCells 128 r (length out) → ((k : ℕ) → getD (r .rest) k 0 < 256) → BlockDone r (length out) table (record { taken = taken; lines = lines; refused = refused′; «has_failed» = failed })
-    block-done {table} c bytes =
+    pub block-done : {table out' : List ℕ} {failed : Bool} → table ≡ blockCells 128 r (length out) → out' ≡ blockText 128 r out → ((k : ℕ) → getD (r .rest) k 0 < 256)
+        → BlockDone r out out' table (record { taken = taken; lines = lines; refused = refused′; «has_failed» = failed })
+    block-done {table} c t bytes =
         let cells : table ≡ worked 128 (count r out) r .cells = c ∙ sound-block r out good .1 in
         record {
-          taken = ap (λ (p : Table.Progress). p .taken) answered;
-          most = bounds .0;
-          cells = cells;
-          lines = ap (λ (p : Table.Progress). p .lines) answered;
-          refused = ap (λ (p : Table.Progress). p .refused) answered;
-          good = ap sound cells ∙ worked-sound r (count r out) good bytes;
+          through = record {
+            taken = ap (λ (p : Table.Progress). p .taken) answered;
+            most = bounds .0;
+            cells = cells;
+            lines = ap (λ (p : Table.Progress). p .lines) answered;
+            refused = ap (λ (p : Table.Progress). p .refused) answered;
+            good = ap sound cells ∙ worked-sound r (count r out) good bytes;
+          };
+          text = t ∙ sound-block r out good .2;
         }

@@ -6,6 +6,7 @@ use mathlib.Core.Bool.{true, false, not}
 use mathlib.Core.List.{List}
 use lib.Dec.{eqb}
 use lib.ListN.{length, take}
+use Rattle.protocol.specs.Overwrite.{overwrite}
 use Rattle.rules.specs.Cells.{sound}
 use Rattle.log.specs.Record.{recordSize}
 use Rattle.log.specs.Output.{records}
@@ -22,7 +23,8 @@ use Rattle.logread.specs.declared.reading.Taken.{Taken}
 abbrev pub runAt : List ℕ → List ℕ → Progress → Run
 runAt table input p = record { cells = table; lines = p .lines; refused = p .refused; rest = take (p .held) input }
 
--- what may be written: the lines of some records of a run, or the ending of a log that came in pieces
+-- what may be written: the lines of some records of some run, or the ending of a log that came in pieces. Of which run they
+-- are, and that there are any, it does not say
 pub data Printable (text : List ℕ) : Type 0 where
   someLines : (r : Run) (n : ℕ) → text ≡ printed 128 n r → Printable text
   wholeEnding : (pieces : List (List ℕ)) → text ≡ ending (afterPieces 128 start pieces) → Printable text
@@ -36,9 +38,10 @@ pub record Through (r : Run) (n : ℕ) (table : List ℕ) (t : Taken) : Type 0 w
   pub refused : t .refused ≡ worked 128 n r .refused
   pub good : sound table ≡ true
 
--- a block, as an output of so many bytes has room for it
-abbrev pub BlockDone : Run → ℕ → List ℕ → Taken → Type 0
-BlockDone r room table t = Through r (blockRecords 128 r room) table t
+-- a block, as the output has room for it, and its lines at the start of the output
+pub record BlockDone (r : Run) (before after table : List ℕ) (t : Taken) : Type 0 where
+  pub through : Through r (blockRecords 128 r (length before)) table t
+  pub text : after ≡ overwrite before 0 (printed 128 (blockRecords 128 r (length before)) r)
 
 -- all whole records, unless it failed before
 pub record RecordsDone (r : Run) (table : List ℕ) (t : Taken) : Type 0 where

@@ -59,7 +59,7 @@ fn print(text: &[u8]) -> bool
 // Works through a block of whole records of a part of the input, and prints their lines.
 fn print_block(table: &mut [u32], lines: u64, refused: u64, input: &[u8], out: &mut [u8]) -> Taken
     requires { ⌜ sound (now table) ≡ true ⌝ }
-    ensures { λ r. ⌜ BlockDone (runOf (now (table .entry)) lines refused (now (input .entry))) (length (now (out .entry))) (now (table .exit)) r ⌝ }
+    ensures { λ r. ⌜ BlockDone (runOf (now (table .entry)) lines refused (now (input .entry))) (now (out .entry)) (now (out .exit)) (now (table .exit)) r ⌝ }
 {
     match read_block(table, lines, refused, input, out) {
         Block::Done {

@@ -49,7 +49,7 @@ returns c =
     let a = c .before .before .before .before .before .before .before .before .before .before .before .before .before .before .before .args in
     let r = runOf (a .table .now) (a .lines) (a .refused) (a .input .now) in
     let b = c .before .before .before .before .before .before .before .before .before .read-block in
-    block-done r (a .out .now) (c .before .before .before .before .before .before .before .before .before .before .before .before .before .before .before .pre) (b .result) (b .ensures .0) (c .before .before .before .taken .given .1) (b .ensures .3) (b .ensures .1) (λ (k : ℕ). c .before .before .before .before .before .before .before .before .before .before .before .before .before .shared-slice-known .given k .fits)
+    block-done r (a .out .now) (c .before .before .before .before .before .before .before .before .before .before .before .before .before .before .before .pre) (b .result) (b .ensures .0) (c .before .before .before .taken .given .1) (b .ensures .3) (b .ensures .1) (b .ensures .2) (λ (k : ℕ). c .before .before .before .before .before .before .before .before .before .before .before .before .before .shared-slice-known .given k .fits)
 
 same-length-3 : tie.Need-same-length-3
 same-length-3 c = search needs

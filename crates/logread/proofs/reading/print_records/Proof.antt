@@ -35,7 +35,7 @@ print-block-requires : tie.Need-print-block-requires Inv-loop μ-loop
 print-block-requires c κs = c .before .before .before .before .loop .inv .0 .through .good
 
 add-done : tie.Need-add-done Inv-loop μ-loop
-add-done c = record { fits = omega (arith, within (c .before .before .before .before .before .before .before .before .before .before .loop .inv .0) (c .before .before .before .before .before .print-block .ensures), c .before .before .before .before .before .before .before .before .before .before .before .before .before .before .good) }
+add-done c = record { fits = omega (arith, within (c .before .before .before .before .before .before .before .before .before .before .loop .inv .0) (c .before .before .before .before .before .print-block .ensures .through), c .before .before .before .before .before .before .before .before .before .before .before .before .before .before .good) }
 
 same-length : tie.Need-same-length Inv-loop μ-loop
 same-length c = c .before .before .before .before .before .table .given ∙ c .before .before .before .before .before .before .before .before .before .before .before .loop .inv .1
@@ -44,7 +44,7 @@ same-length-2 : tie.Need-same-length-2 Inv-loop μ-loop
 same-length-2 c = c .before .before .before .out .given ∙ c .before .before .before .before .before .before .before .before .before .before .before .loop .inv .2
 
 returns : tie.Need-returns Inv-loop μ-loop
-returns c = records-failed (passed-more (c .before .before .before .before .before .before .before .before .before .before .before .loop .inv .0) (c .before .before .before .before .before .before .print-block .ensures))
+returns c = records-failed (passed-more (c .before .before .before .before .before .before .before .before .before .before .before .loop .inv .0) (c .before .before .before .before .before .before .print-block .ensures .through))
 
 slice-aggregate-tell : tie.Need-slice-aggregate-tell Inv-loop μ-loop
 slice-aggregate-tell c = search needs
@@ -62,15 +62,15 @@ same-length-4 : tie.Need-same-length-4 Inv-loop μ-loop
 same-length-4 c = c .before .before .before .before .before .before .before .before .out .given ∙ c .before .before .before .before .before .before .before .before .before .before .before .before .before .before .before .before .loop .inv .2
 
 returns-2 : tie.Need-returns-2 Inv-loop μ-loop
-returns-2 c = records-failed (passed-more (c .before .before .before .before .before .before .before .before .before .before .before .before .before .before .before .before .loop .inv .0) (c .before .before .before .before .before .before .before .before .before .before .before .print-block .ensures))
+returns-2 c = records-failed (passed-more (c .before .before .before .before .before .before .before .before .before .before .before .before .before .before .before .before .loop .inv .0) (c .before .before .before .before .before .before .before .before .before .before .before .print-block .ensures .through))
 
 loop-less : tie.Need-loop-less Inv-loop μ-loop
-loop-less c = omega (arith, within (c .before .before .before .before .before .before .before .before .before .before .before .before .before .loop .inv .0) (c .before .before .before .before .before .before .before .before .print-block .ensures), c .if2 .left)
+loop-less c = omega (arith, within (c .before .before .before .before .before .before .before .before .before .before .before .before .before .loop .inv .0) (c .before .before .before .before .before .before .before .before .print-block .ensures .through), c .if2 .left)
 
 loop-again : tie.Need-loop-again Inv-loop μ-loop
 loop-again c =
     let l = c .before .before .before .before .before .before .before .before .before .before .before .before .before .loop in
-    (passed-more (l .inv .0) (c .before .before .before .before .before .before .before .before .print-block .ensures), c .before .before .before .before .before .before .before .table .given ∙ l .inv .1, c .before .before .before .before .before .out .given ∙ l .inv .2)
+    (passed-more (l .inv .0) (c .before .before .before .before .before .before .before .before .print-block .ensures .through), c .before .before .before .before .before .before .before .table .given ∙ l .inv .1, c .before .before .before .before .before .out .given ∙ l .inv .2)
 
 same-length-5 : tie.Need-same-length-5 Inv-loop μ-loop
 same-length-5 c = c .before .loop .inv .1
