@@ -17,15 +17,7 @@ use Rattle.rules.specs.Facts.{Setup, Format, Wiring, Unjoined, Joined, V
 use Rattle.rules.specs.Table.{Record}
 use Rattle.rules.specs.WellFormed.{formatFits, formatsFit, settingsFit, factsFit}
 use Rattle.rules.specs.Cells.{formatCell, setupCells, wiringCell, firstPartner, secondPartner, formatCells, modes, recordCells, placeCells, formatBytes, formatAt, wiringAt, recordAt, placeAt}
-use Rattle.rules.proofs.SettingsFit.{NoHigh, listed}
-
--- five tests passed: each did
-pub five-passed : (a b c d e : Bool) → (a && b && c && d && e) ≡ true → (a ≡ true) × (b ≡ true) × (c ≡ true) × (d ≡ true) × (e ≡ true)
-five-passed a b c d e h =
-    let abcd = and-left (a && b && c && d) e h in
-    let abc = and-left (a && b && c) d abcd in
-    let ab = and-left (a && b) c abc in
-    (and-left a b ab, and-right a b ab, and-right (a && b) c abc, and-right (a && b && c) d abcd, and-right (a && b && c && d) e h)
+use Rattle.rules.proofs.SettingsFit.{NoHigh, five-passed, listed}
 
 -- ---- formats
 
@@ -85,25 +77,25 @@ wired-not-free (Joined v) = refl
 wired-not-free (Virtual a b) = refl
 
 -- what cells stand for, the setups' among them
-setups-back : (w port device a b state : ℕ) (asked answered : Option Setup) (fs : List ℕ) → recordAt (w ∷ port ∷ device ∷ a ∷ b ∷ state ∷ (setupCells asked ++ setupCells answered ++ fs)) ≡ record {
+setups-back : (w port device a b state experiment : ℕ) (asked answered : Option Setup) (fs : List ℕ) → recordAt (w ∷ port ∷ device ∷ a ∷ b ∷ state ∷ (setupCells asked ++ (experiment ∷ (setupCells answered ++ fs)))) ≡ record {
   port = port;
   facts = record {
     device = device;
     wiring = wiringAt w a b;
-    settings = record { formats = λ mode. formatAt (getD (take modeCount fs) mode 0); answered = answered; asked = asked; state = state };
+    settings = record { formats = λ mode. formatAt (getD (take modeCount fs) mode 0); answered = answered; asked = asked; state = state; experiment = experiment };
   };
 }
 unfolding recordAt
-setups-back w port device a b state none none fs = refl
-setups-back w port device a b state none (some s) fs = refl
-setups-back w port device a b state (some s) none fs = refl
-setups-back w port device a b state (some s) (some t) fs = refl
+setups-back w port device a b state experiment none none fs = refl
+setups-back w port device a b state experiment none (some s) fs = refl
+setups-back w port device a b state experiment (some s) none fs = refl
+setups-back w port device a b state experiment (some s) (some t) fs = refl
 
-setups-length : (asked answered : Option Setup) (fs : List ℕ) → length (setupCells asked ++ setupCells answered ++ fs) ≡ 6 + length fs
-setups-length none none fs = omega arith
-setups-length none (some s) fs = omega arith
-setups-length (some s) none fs = omega arith
-setups-length (some s) (some t) fs = omega arith
+setups-length : (asked : Option Setup) (experiment : ℕ) (answered : Option Setup) (fs : List ℕ) → length (setupCells asked ++ (experiment ∷ (setupCells answered ++ fs))) ≡ 7 + length fs
+setups-length none experiment none fs = omega arith
+setups-length none experiment (some s) fs = omega arith
+setups-length (some s) experiment none fs = omega arith
+setups-length (some s) experiment (some t) fs = omega arith
 
 -- ---- a record, and a place
 
@@ -113,13 +105,13 @@ record-back r high fits =
     let f : Facts = r .facts in
     let s : Settings = f .settings in
     let formats = listed s (and-right (ltb (f .device) 65536) (settingsFit s) fits) .formats in
-    setups-back (wiringCell (f .wiring)) (r .port) (f .device) (firstPartner (f .wiring)) (secondPartner (f .wiring)) (s .state) (s .asked) (s .answered) (formatCells (s .formats) modes)
+    setups-back (wiringCell (f .wiring)) (r .port) (f .device) (firstPartner (f .wiring)) (secondPartner (f .wiring)) (s .state) (s .experiment) (s .asked) (s .answered) (formatCells (s .formats) modes)
     ∙ λ i. record {
       port = r .port;
       facts = record {
         device = f .device;
         wiring = wiring-back (f .wiring) i;
-        settings = record { formats = λ mode. formats-back (s .formats) high formats mode i; answered = s .answered; asked = s .asked; state = s .state };
+        settings = record { formats = λ mode. formats-back (s .formats) high formats mode i; answered = s .answered; asked = s .asked; state = s .state; experiment = s .experiment };
       };
     }
 

@@ -12,8 +12,8 @@ use Rattle.rules.specs.Facts.{View, known}
 use Rattle.rules.specs.Table.{Record, Table, viewOfTable}
 use Rattle.rules.specs.WellFormed.{factsFit, wiringFits, placesFit, wellFormed}
 use Rattle.rules.specs.Cells.{placeCells, cellsOf, placeAt, placesAt, tableAt}
-use Rattle.rules.proofs.SettingsFit.{NoHigh}
-use Rattle.rules.proofs.CellsRecord.{five-passed, record-place, place-length}
+use Rattle.rules.proofs.SettingsFit.{NoHigh, five-passed}
+use Rattle.rules.proofs.CellsRecord.{record-place, place-length}
 
 -- no record has a format of a mode from 16 on
 abbrev pub NoHighFormats : Table → Type 0

@@ -6,7 +6,7 @@ use mathlib.Core.Option.{none, some}
 use native.Mathlib.Omega.{arith}
 use lib.Dec.{leb}
 use lib.ListN.{replicate}
-use Rattle.protocol.specs.Number.{Bytes}
+use Rattle.protocol.specs.declared.Way.{Way}
 use Rattle.rules.specs.Layout.{portCount, places}
 use Rattle.rules.specs.Answer.{Answer, refused, accepted}
 use Rattle.rules.specs.Effect.{Effect}
@@ -14,8 +14,8 @@ use Rattle.rules.specs.Facts.{View, Ports}
 use Rattle.rules.specs.History.{History, sinceAttached, viewOfHistory, presentBelow, fullHistory, portsOfHistory}
 use Rattle.rules.specs.Table.{Table, viewOfTable, modesOfTable, portsOfTable, fullTable, apply}
 use Rattle.rules.specs.Cells.{cellsOf, tableAt, emptyCells}
-use Rattle.rules.specs.Offer.{Entry, judgeEntry, datasetEntry, offerByCells, appliedTo, cellsAfter, datasetByCells, extendHistory, acceptedHistory}
-use Rattle.rules.specs.Demand3.{Agree, AgreeThrough, AllBytes, Demand3}
+use Rattle.rules.specs.Offer.{Entry, judgeEntry, datasetMessage, offerByCells, appliedTo, cellsAfter, datasetByCells, extendHistory, acceptedHistory}
+use Rattle.rules.specs.Demand3.{Agree, AgreeThrough, EntryFits, EntriesFit, Demand3}
 use Rattle.rules.proofs.Lookup.{mapFacts}
 use Rattle.rules.proofs.Pairs.{pairs-none}
 use Rattle.rules.proofs.Sound.{wiring?, wiredIn, Distinct, Sound}
@@ -49,9 +49,9 @@ all-ports t h s f = λ i. record { view = views t h s f i; modes = λ q. same-mo
 same-verdict : (t : Table) (h : History) → Sound t → Follows t h → (e : Entry) → judgeEntry (portsOfTable t) e ≡ judgeEntry (portsOfHistory h) e
 same-verdict t h s f e = ap (λ (p : Ports). judgeEntry p e) (all-ports t h s f)
 
-same-dataset : (t : Table) (h : History) → Sound t → Follows t h → (e : Entry) (n : ℕ) → datasetByCells (cellsOf t) e n ≡ datasetEntry (portsOfHistory h) e n
+same-dataset : (t : Table) (h : History) → Sound t → Follows t h → (way : Way) (bytes : List ℕ) (n : ℕ) → datasetByCells (cellsOf t) way bytes n ≡ datasetMessage (portsOfHistory h) way bytes n
 unfolding datasetByCells
-same-dataset t h s f e n = rw (is-sound t s, back t s) (ap (λ (p : Ports). datasetEntry p e n) (all-ports t h s f))
+same-dataset t h s f way bytes n = rw (is-sound t s, back t s) (ap (λ (p : Ports). datasetMessage p way bytes n) (all-ports t h s f))
 
 -- ---- through the list
 
@@ -62,14 +62,14 @@ agrees cells past k =
     record {
       ports = λ p. ap (λ (c : List ℕ). viewOfTable (tableAt c) p) (k .cells-are) ∙ ap (λ (u : Table). viewOfTable u p) (back t (k .good)) ∙ same-view t (k .good) h (k .follows) p;
       modes = λ p. ap (λ (c : List ℕ). modesOfTable (tableAt c) p) (k .cells-are) ∙ ap (λ (u : Table). modesOfTable u p) (back t (k .good)) ∙ same-mode t (k .good) h (k .follows) p;
-      datasets = λ e n. ap (λ (c : List ℕ). datasetByCells c e n) (k .cells-are) ∙ same-dataset t h (k .good) (k .follows) e n;
+      datasets = λ way bytes n. ap (λ (c : List ℕ). datasetByCells c way bytes n) (k .cells-are) ∙ same-dataset t h (k .good) (k .follows) way bytes n;
     }
 
 answers : (cells : List ℕ) (h : History) → Holds cells h → (e : Entry) → offerByCells cells e ≡ judgeEntry (portsOfHistory h) e
 answers cells h k e = ap (λ (c : List ℕ). offerByCells c e) (k .cells-are) ∙ judges (k .table) (k .good) e ∙ same-verdict (k .table) h (k .good) (k .follows) e
 
 -- an answer changes the cells and the history alike
-next : (cells : List ℕ) (h : History) → Holds cells h → (e : Entry) → Bytes (e .bytes) → (v : Answer Effect) → judgeEntry (portsOfHistory h) e ≡ v → Holds (appliedTo cells v) (extendHistory h v)
+next : (cells : List ℕ) (h : History) → Holds cells h → (e : Entry) → EntryFits e → (v : Answer Effect) → judgeEntry (portsOfHistory h) e ≡ v → Holds (appliedTo cells v) (extendHistory h v)
 next cells h k e b (refused n place) j = k
 next cells h k e b (accepted x) j =
     let t : Table = k .table in
@@ -82,7 +82,7 @@ next cells h k e b (accepted x) j =
       follows = follows-step x t h (a .count) (k .good) (k .follows) (a .good);
     }
 
-through : (cells : List ℕ) (past rest : List Entry) → AllBytes rest → Holds cells (acceptedHistory past) → AgreeThrough cells past rest
+through : (cells : List ℕ) (past rest : List Entry) → EntriesFit rest → Holds cells (acceptedHistory past) → AgreeThrough cells past rest
 unfolding cellsAfter
 through cells past [] b k = agrees cells past k
 through cells past (e ∷ rest) b k =
@@ -123,4 +123,4 @@ at-start = record {
 }
 
 pub demand-3 : Demand3
-demand-3 messages b = through emptyCells [] messages b at-start
+demand-3 entries b = through emptyCells [] entries b at-start

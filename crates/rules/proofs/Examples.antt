@@ -13,9 +13,9 @@ use Rattle.rules.specs.Learn.{learn}
 use Rattle.rules.specs.Latest.{settingsOf}
 use Rattle.rules.specs.WellFormed.{wellFormed}
 use Rattle.rules.specs.History.{sinceAttached, viewOfHistory, modesOfHistory, fullHistory}
-use Rattle.rules.specs.Offer.{judgeEntry, datasetEntry}
+use Rattle.rules.specs.Offer.{judgeEntry, datasetMessage}
 use Rattle.rules.specs.Examples.{ExamplesHold}
 
 pub examples-hold : ExamplesHold
-unfolding decode decodeWay decodeType decodeForm layout informationType longestModeText littleEndian bigEndian ofBits types hubAttachedIo portInformation portModeInformation hubActions downAction virtualPortSetup effectOf valueLookup judge datasetOf datasetAnswer settingsOf sinceAttached viewOfHistory modesOfHistory fullHistory judgeEntry datasetEntry learn wellFormed
-examples-hold = (refl, refl, refl, refl, refl, refl, refl, refl, refl, refl, refl, refl, refl)
+unfolding decode decodeWay decodeType decodeForm layout informationType longestModeText littleEndian bigEndian ofBits types hubAttachedIo portInformation portModeInformation hubActions downAction virtualPortSetup effectOf valueLookup judge datasetOf datasetAnswer settingsOf sinceAttached viewOfHistory modesOfHistory fullHistory judgeEntry datasetMessage learn wellFormed
+examples-hold = (refl, refl, refl, refl, refl, refl, refl, refl, refl, refl, refl, refl, refl, refl)

@@ -14,8 +14,7 @@ use Rattle.rules.specs.Layout.{portCount, places}
 use Rattle.rules.specs.Facts.{Wiring, Unjoined, Joined, Virtual, Facts, View, known}
 use Rattle.rules.specs.Table.{Record, Table, viewOfTable}
 use Rattle.rules.specs.WellFormed.{joinedTo, isJoinedTo, pairWith, isPairWith, wiringFits, settingsFit, factsFit, recordFits, placesFit, wellFormed}
-use Rattle.rules.proofs.SettingsFit.{NoHigh}
-use Rattle.rules.proofs.CellsRecord.{five-passed}
+use Rattle.rules.proofs.SettingsFit.{NoHigh, five-passed}
 use Rattle.rules.proofs.CellsTable.{NoHighFormats}
 use Rattle.rules.proofs.Kept.{not-same}
 use Rattle.rules.proofs.Pairs.{Wired, Named}

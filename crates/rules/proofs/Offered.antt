@@ -10,7 +10,6 @@ use borrow.Author.Tests.{eqb-true, eq-eqb}
 use lib.Dec.{eqb}
 use lib.ListN.{length}
 use Rattle.protocol.proofs.Tests.{which}
-use Rattle.protocol.specs.Number.{Bytes}
 use Rattle.protocol.specs.Field.{Value}
 use Rattle.protocol.specs.Form.{Form}
 use Rattle.protocol.specs.Decode.{decode, openOf}
@@ -23,6 +22,7 @@ use Rattle.rules.specs.Judge.{judge}
 use Rattle.rules.specs.Ranges.{effectFits}
 use Rattle.rules.specs.Table.{Table, viewOfTable, portsOfTable, apply}
 use Rattle.rules.specs.Cells.{cellsOf, tableAt, sound}
+use Rattle.rules.specs.Demand3.{EntryFits}
 use Rattle.rules.specs.Offer.{Entry, judgeReading, judgeEntry, offerByCells}
 use Rattle.rules.proofs.Sound.{Distinct, Sound, found-later, sound-formed}
 use Rattle.rules.proofs.CellsTable.{NoHighFormats, table-back}
@@ -36,7 +36,7 @@ pub record Accepted (ports : Ports) (e : Entry) (effect : Effect) : Type 0 where
   pub form : Form
   pub values : List Value
   pub read : decode (e .way) (e .bytes) ≡ Decode.accepted form values
-  pub is : effect ≡ effectOf (messageOf form values)
+  pub is : effect ≡ effectOf (e .experiment) (messageOf form values)
   pub count : ℕ
   pub good : judge ports effect count ≡ 0
 
@@ -58,10 +58,10 @@ pub was-accepted : (ports : Ports) (e : Entry) (effect : Effect) → judgeEntry 
 unfolding judgeEntry
 was-accepted ports e effect k = go (decode (e .way) (e .bytes)) refl k
   where
-    go : (a : Decode.Answer) → decode (e .way) (e .bytes) ≡ a → judgeReading ports (e .bytes) a ≡ accepted effect → Accepted ports e effect
+    go : (a : Decode.Answer) → decode (e .way) (e .bytes) ≡ a → judgeReading ports (e .bytes) (e .experiment) a ≡ accepted effect → Accepted ports e effect
     go (Decode.refused n place) r j = let z : _≡_ {A = ℕ} 0 1 = cc in absurd (omega arith)
     go (Decode.accepted f vs) r j =
-        let x : Effect = effectOf (messageOf f vs) in
+        let x : Effect = effectOf (e .experiment) (messageOf f vs) in
         let count : ℕ = length (openOf (e .bytes) (Decode.accepted f vs)) in
         let v = unless-accepted (judge ports x count) (accepted x) effect j in
         let is : effect ≡ x = sym (same x effect (v .1)) in
@@ -90,7 +90,7 @@ module _ (t : Table) (s : Sound t) where
   unfolding offerByCells
   judges e = rw (is-sound, back)
 
-  pub kept : (e : Entry) → Bytes (e .bytes) → (x : Effect) → judgeEntry (portsOfTable t) e ≡ accepted x → Sound (apply x t)
+  pub kept : (e : Entry) → EntryFits e → (x : Effect) → judgeEntry (portsOfTable t) e ≡ accepted x → Sound (apply x t)
   kept e b x k =
       let a = was-accepted (portsOfTable t) e x k in
-      keeps x t (a .count) s (ap effectFits (a .is) ∙ effect-fits (e .way) (e .bytes) b (a .form) (a .values) (a .read)) (a .good)
+      keeps x t (a .count) s (ap effectFits (a .is) ∙ effect-fits (e .experiment) (b .1) (e .way) (e .bytes) (b .0) (a .form) (a .values) (a .read)) (a .good)

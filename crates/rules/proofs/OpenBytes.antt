@@ -49,49 +49,49 @@ action-alike : (x : Bool) → isValue (cond x Empty Nothing) ≡ false
 action-alike true = refl
 action-alike false = refl
 
-value-bytes : (m : Message) (s : List ℕ) → (isValue (effectOf m) ≡ false) ⊎ (openOf s (accepted (formOf m) (valuesOf m)) ≡ drop 4 s)
+value-bytes : (experiment : ℕ) (m : Message) (s : List ℕ) → (isValue (effectOf experiment m) ≡ false) ⊎ (openOf s (accepted (formOf m) (valuesOf m)) ≡ drop 4 s)
 unfolding effectOf layout
-value-bytes (Message'.PropertyCommand p o) s = inl refl
-value-bytes (Message'.PropertyText p o) s = inl refl
-value-bytes (Message'.PropertyByte p o v) s = inl refl
-value-bytes (Message'.PropertyRssi o v) s = inl refl
-value-bytes (Message'.PropertyVersion p o v) s = inl refl
-value-bytes (Message'.PropertyProtocol o v) s = inl refl
-value-bytes (Message'.PropertyAddress p o v) s = inl refl
-value-bytes (Message'.HubAction a) s = inl (action-alike (emptiesTable a))
-value-bytes (Message'.AlertCommand a o) s = inl refl
-value-bytes (Message'.AlertUpdate a v) s = inl refl
-value-bytes (Message'.Detached p) s = inl refl
-value-bytes (Message'.Attached p d h v) s = inl refl
-value-bytes (Message'.AttachedVirtual p d a b) s = inl refl
-value-bytes (Message'.GenericError c e) s = inl refl
-value-bytes Message'.GoIntoBootMode s = inl refl
-value-bytes Message'.LockMemory s = inl refl
-value-bytes Message'.LockStatusRequest s = inl refl
-value-bytes (Message'.LockStatus v) s = inl refl
-value-bytes (Message'.PortInformationRequest p i) s = inl refl
-value-bytes (Message'.ModeInformationRequest p m i) s = inl refl
-value-bytes (Message'.InputFormatSetup p m d n) s = inl refl
-value-bytes (Message'.PortModes p c n i o) s = inl refl
-value-bytes (Message'.PortCombinations p c) s = inl refl
-value-bytes (Message'.ModeText p m i) s = inl refl
-value-bytes (Message'.ModeRange p m i l h) s = inl refl
-value-bytes (Message'.ModeMapping p m v) s = inl refl
-value-bytes (Message'.ModeBias p m v) s = inl refl
-value-bytes (Message'.ModeCapabilities p m v) s = inl refl
-value-bytes (Message'.ValueFormat p m n k f d) s = inl refl
-value-bytes (Message'.PortValue p) s = inr refl
-value-bytes (Message'.InputFormat p m d n) s = inl refl
-value-bytes (Message'.VirtualDisconnect p) s = inl refl
-value-bytes (Message'.VirtualConnect a b) s = inl refl
+value-bytes experiment (Message'.PropertyCommand p o) s = inl refl
+value-bytes experiment (Message'.PropertyText p o) s = inl refl
+value-bytes experiment (Message'.PropertyByte p o v) s = inl refl
+value-bytes experiment (Message'.PropertyRssi o v) s = inl refl
+value-bytes experiment (Message'.PropertyVersion p o v) s = inl refl
+value-bytes experiment (Message'.PropertyProtocol o v) s = inl refl
+value-bytes experiment (Message'.PropertyAddress p o v) s = inl refl
+value-bytes experiment (Message'.HubAction a) s = inl (action-alike (emptiesTable a))
+value-bytes experiment (Message'.AlertCommand a o) s = inl refl
+value-bytes experiment (Message'.AlertUpdate a v) s = inl refl
+value-bytes experiment (Message'.Detached p) s = inl refl
+value-bytes experiment (Message'.Attached p d h v) s = inl refl
+value-bytes experiment (Message'.AttachedVirtual p d a b) s = inl refl
+value-bytes experiment (Message'.GenericError c e) s = inl refl
+value-bytes experiment Message'.GoIntoBootMode s = inl refl
+value-bytes experiment Message'.LockMemory s = inl refl
+value-bytes experiment Message'.LockStatusRequest s = inl refl
+value-bytes experiment (Message'.LockStatus v) s = inl refl
+value-bytes experiment (Message'.PortInformationRequest p i) s = inl refl
+value-bytes experiment (Message'.ModeInformationRequest p m i) s = inl refl
+value-bytes experiment (Message'.InputFormatSetup p m d n) s = inl refl
+value-bytes experiment (Message'.PortModes p c n i o) s = inl refl
+value-bytes experiment (Message'.PortCombinations p c) s = inl refl
+value-bytes experiment (Message'.ModeText p m i) s = inl refl
+value-bytes experiment (Message'.ModeRange p m i l h) s = inl refl
+value-bytes experiment (Message'.ModeMapping p m v) s = inl refl
+value-bytes experiment (Message'.ModeBias p m v) s = inl refl
+value-bytes experiment (Message'.ModeCapabilities p m v) s = inl refl
+value-bytes experiment (Message'.ValueFormat p m n k f d) s = inl refl
+value-bytes experiment (Message'.PortValue p) s = inr refl
+value-bytes experiment (Message'.InputFormat p m d n) s = inl refl
+value-bytes experiment (Message'.VirtualDisconnect p) s = inl refl
+value-bytes experiment (Message'.VirtualConnect a b) s = inl refl
 
 -- a message's open bytes, and its bytes from the fourth on
-pub open-alike : (m : Message) (s : List ℕ) → Alike (effectOf m) (openOf s (accepted (formOf m) (valuesOf m))) (drop 4 s)
-open-alike m s =
+pub open-alike : (experiment : ℕ) (m : Message) (s : List ℕ) → Alike (effectOf experiment m) (openOf s (accepted (formOf m) (valuesOf m))) (drop 4 s)
+open-alike experiment m s =
     ⊎-elim
-    (λ (h : isValue (effectOf m) ≡ false). alike (effectOf m) (openOf s (accepted (formOf m) (valuesOf m))) (drop 4 s) h)
+    (λ (h : isValue (effectOf experiment m) ≡ false). alike (effectOf experiment m) (openOf s (accepted (formOf m) (valuesOf m))) (drop 4 s) h)
     (λ (e : openOf s (accepted (formOf m) (valuesOf m)) ≡ drop 4 s). record {
-      judges = λ ports. ap (λ (b : List ℕ). judge ports (effectOf m) (length b)) e;
-      datasets = λ ports n. ap (λ (b : List ℕ). datasetAnswer ports (effectOf m) b n) e;
+      judges = λ ports. ap (λ (b : List ℕ). judge ports (effectOf experiment m) (length b)) e;
+      datasets = λ ports n. ap (λ (b : List ℕ). datasetAnswer ports (effectOf experiment m) b n) e;
     })
-    (value-bytes m s)
+    (value-bytes experiment m s)

@@ -18,6 +18,7 @@ use Rattle.protocol.proofs.FieldTrip.{taken-good, never, step-after}
 use Rattle.protocol.proofs.FieldsTrip.{one-step}
 use Rattle.protocol.proofs.FormTrip.{was-written, form-written}
 use Rattle.protocol.proofs.RoundTrip.{form-accepted}
+use Rattle.rules.specs.Layout.{experimentCount}
 use Rattle.rules.specs.Effect.{Empty, Nothing, emptiesTable, effectOf}
 use Rattle.rules.specs.Ranges.{effectFits}
 
@@ -66,43 +67,43 @@ either-fits true = refl
 either-fits false = refl
 
 -- a form whose numbers are listed gives what a table may keep
-listed-fits : (f : Form) (vs : List Value) → AllListed (layout f .fields) (naturalAt vs) → effectFits (effectOf (messageOf f vs)) ≡ true
+listed-fits : (experiment : ℕ) → ltb experiment experimentCount ≡ true → (f : Form) (vs : List Value) → AllListed (layout f .fields) (naturalAt vs) → effectFits (effectOf experiment (messageOf f vs)) ≡ true
 unfolding layout effectOf
-listed-fits Form.propertyCommand vs k = refl
-listed-fits (Form.propertyText p) vs k = refl
-listed-fits (Form.propertyByte p) vs k = refl
-listed-fits Form.propertyRssi vs k = refl
-listed-fits Form.propertyVersion vs k = refl
-listed-fits Form.propertyProtocol vs k = refl
-listed-fits Form.propertyAddress vs k = refl
-listed-fits Form.hubAction vs k = either-fits (emptiesTable (naturalAt vs 0))
-listed-fits Form.alertCommand vs k = refl
-listed-fits Form.alertUpdate vs k = refl
-listed-fits Form.detached vs k = refl
-listed-fits Form.attached vs (port, (event, (device, k))) = rw (port .0, device .0)
-listed-fits Form.attachedVirtual vs (port, (event, (device, (a, (b, k))))) = rw (port .0, device .0, a .0, b .0)
-listed-fits Form.genericError vs k = refl
-listed-fits Form.goIntoBootMode vs k = refl
-listed-fits Form.lockMemory vs k = refl
-listed-fits Form.lockStatusRequest vs k = refl
-listed-fits Form.lockStatus vs k = refl
-listed-fits Form.portInformationRequest vs k = refl
-listed-fits Form.modeInformationRequest vs k = refl
-listed-fits Form.inputFormatSetup vs (port, (mode, (delta, (notify, k)))) = rw (mode .1, delta .0, notify .1)
-listed-fits Form.portModes vs k = refl
-listed-fits Form.portCombinations vs k = refl
-listed-fits (Form.modeText i) vs k = refl
-listed-fits Form.modeRange vs k = refl
-listed-fits Form.modeMapping vs k = refl
-listed-fits Form.modeBias vs k = refl
-listed-fits Form.modeCapabilities vs k = refl
-listed-fits Form.valueFormat vs (port, (mode, (information, (datasets, (kind, (figures, (decimals, k))))))) = rw (mode .1, datasets .1, kind .1, figures .0, decimals .0)
-listed-fits Form.portValue vs k = refl
-listed-fits Form.inputFormat vs (port, (mode, (delta, (notify, k)))) = rw (mode .1, delta .0, notify .1)
-listed-fits Form.virtualDisconnect vs k = refl
-listed-fits Form.virtualConnect vs k = refl
+listed-fits experiment small Form.propertyCommand vs k = refl
+listed-fits experiment small (Form.propertyText p) vs k = refl
+listed-fits experiment small (Form.propertyByte p) vs k = refl
+listed-fits experiment small Form.propertyRssi vs k = refl
+listed-fits experiment small Form.propertyVersion vs k = refl
+listed-fits experiment small Form.propertyProtocol vs k = refl
+listed-fits experiment small Form.propertyAddress vs k = refl
+listed-fits experiment small Form.hubAction vs k = either-fits (emptiesTable (naturalAt vs 0))
+listed-fits experiment small Form.alertCommand vs k = refl
+listed-fits experiment small Form.alertUpdate vs k = refl
+listed-fits experiment small Form.detached vs k = refl
+listed-fits experiment small Form.attached vs (port, (event, (device, k))) = rw (port .0, device .0)
+listed-fits experiment small Form.attachedVirtual vs (port, (event, (device, (a, (b, k))))) = rw (port .0, device .0, a .0, b .0)
+listed-fits experiment small Form.genericError vs k = refl
+listed-fits experiment small Form.goIntoBootMode vs k = refl
+listed-fits experiment small Form.lockMemory vs k = refl
+listed-fits experiment small Form.lockStatusRequest vs k = refl
+listed-fits experiment small Form.lockStatus vs k = refl
+listed-fits experiment small Form.portInformationRequest vs k = refl
+listed-fits experiment small Form.modeInformationRequest vs k = refl
+listed-fits experiment small Form.inputFormatSetup vs (port, (mode, (delta, (notify, k)))) = rw (mode .1, delta .0, notify .1, small)
+listed-fits experiment small Form.portModes vs k = refl
+listed-fits experiment small Form.portCombinations vs k = refl
+listed-fits experiment small (Form.modeText i) vs k = refl
+listed-fits experiment small Form.modeRange vs k = refl
+listed-fits experiment small Form.modeMapping vs k = refl
+listed-fits experiment small Form.modeBias vs k = refl
+listed-fits experiment small Form.modeCapabilities vs k = refl
+listed-fits experiment small Form.valueFormat vs (port, (mode, (information, (datasets, (kind, (figures, (decimals, k))))))) = rw (mode .1, datasets .1, kind .1, figures .0, decimals .0)
+listed-fits experiment small Form.portValue vs k = refl
+listed-fits experiment small Form.inputFormat vs (port, (mode, (delta, (notify, k)))) = rw (mode .1, delta .0, notify .1)
+listed-fits experiment small Form.virtualDisconnect vs k = refl
+listed-fits experiment small Form.virtualConnect vs k = refl
 
-pub effect-fits : (way : Way) (s : List ℕ) → Bytes s → (f : Form) (vs : List Value) → decode way s ≡ accepted f vs → effectFits (effectOf (messageOf f vs)) ≡ true
-effect-fits way s b f vs e =
+pub effect-fits : (experiment : ℕ) → ltb experiment experimentCount ≡ true → (way : Way) (s : List ℕ) → Bytes s → (f : Form) (vs : List Value) → decode way s ≡ accepted f vs → effectFits (effectOf experiment (messageOf f vs)) ≡ true
+effect-fits experiment small way s b f vs e =
     let w = was-written f vs _ _ (form-written f s b vs (form-accepted way s f vs e)) in
-    listed-fits f vs (all-listed (layout f .fields) header vs (w .front) (w .left) (w .front-is))
+    listed-fits experiment small f vs (all-listed (layout f .fields) header vs (w .front) (w .left) (w .front-is))

@@ -9,7 +9,7 @@ use lib.Dec.{eqb}
 use Rattle.rules.specs.Effect.{Change, Unchanged, Formatted, Answered, Asked}
 use Rattle.rules.specs.Facts.{Setup, Format, Settings}
 use Rattle.rules.specs.Learn.{answeredState, bareSettings, learn}
-use Rattle.rules.specs.Latest.{orElse, latest, formatFor, answer, asking, sinceAsking, stateBy, settingsOf}
+use Rattle.rules.specs.Latest.{orElse, latest, formatFor, answer, asking, askingNumber, orZero, sinceAsking, stateBy, settingsOf}
 
 -- what the table has learnt of a list of changes, the latest first
 abbrev pub learnt : List Change → Settings
@@ -40,14 +40,16 @@ learns (Formatted m f) changes = λ i. record {
   answered = latest answer changes;
   asked = latest asking changes;
   state = stateBy (latest asking changes) (latest answer (sinceAsking changes));
+  experiment = orZero (latest askingNumber changes);
 }
 learns (Answered s) changes = λ i. record {
   formats = λ mode. latest (formatFor mode) changes;
   answered = some s;
   asked = latest asking changes;
   state = same-state (latest asking changes) s i;
+  experiment = orZero (latest askingNumber changes);
 }
-learns (Asked s) changes = refl
+learns (Asked s n) changes = refl
 
 pub same-settings : (changes : List Change) → learnt changes ≡ settingsOf changes
 unfolding settingsOf

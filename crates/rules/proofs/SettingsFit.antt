@@ -5,21 +5,23 @@ use mathlib.Core.Bool.{Bool, true, false, cond, _&&_, _||_}
 use mathlib.Core.Option.{Option, none, some}
 use native.Mathlib.Omega.{arith}
 use borrow.Author.Tests.{ne-eqb, leb-true}
-use lib.Dec.{eqb, leb}
+use lib.Dec.{eqb, leb, ltb}
 use Rattle.protocol.specs.Form.{lastMode}
 use Rattle.protocol.proofs.Tests.{and-left, and-right}
-use Rattle.rules.specs.Layout.{modeCount}
+use Rattle.rules.specs.Layout.{modeCount, experimentCount}
 use Rattle.rules.specs.Effect.{Change, Unchanged, Formatted, Answered, Asked}
 use Rattle.rules.specs.Facts.{Setup, Format, Settings}
 use Rattle.rules.specs.Learn.{sameSetup, answeredState, bareSettings, learn}
 use Rattle.rules.specs.Ranges.{changeFits}
-use Rattle.rules.specs.WellFormed.{setupFits, formatFits, formatsFit, stateFits, settingsFit}
+use Rattle.rules.specs.WellFormed.{setupFits, formatFits, formatsFit, stateFits, experimentFits, settingsFit}
 
-four-passed : (a b c d : Bool) → (a && b && c && d) ≡ true → (a ≡ true) × (b ≡ true) × (c ≡ true) × (d ≡ true)
-four-passed a b c d h =
-    let abc = and-left (a && b && c) d h in
+-- five tests passed: each did
+pub five-passed : (a b c d e : Bool) → (a && b && c && d && e) ≡ true → (a ≡ true) × (b ≡ true) × (c ≡ true) × (d ≡ true) × (e ≡ true)
+five-passed a b c d e h =
+    let abcd = and-left (a && b && c && d) e h in
+    let abc = and-left (a && b && c) d abcd in
     let ab = and-left (a && b) c abc in
-    (and-left a b ab, and-right a b ab, and-right (a && b) c abc, and-right (a && b && c) d h)
+    (and-left a b ab, and-right a b ab, and-right (a && b) c abc, and-right (a && b && c) d abcd, and-right (a && b && c && d) e h)
 
 -- no format of a mode past the last
 abbrev pub NoHigh : (ℕ → Option Format) → Type 0
@@ -35,14 +37,15 @@ pub record Listed (s : Settings) : Type 0 where
   pub answered : setupFits (s .answered) ≡ true
   pub asked : setupFits (s .asked) ≡ true
   pub state : stateFits (s .asked) (s .answered) (s .state) ≡ true
+  pub experiment : experimentFits (s .asked) (s .experiment) ≡ true
 
 pub listed : (s : Settings) → settingsFit s ≡ true → Listed s
 listed s e =
-    let k = four-passed (formatsFit modeCount (s .formats)) (setupFits (s .answered)) (setupFits (s .asked)) (stateFits (s .asked) (s .answered) (s .state)) e in
-    record { formats = k .0; answered = k .1; asked = k .2; state = k .3 }
+    let k = five-passed (formatsFit modeCount (s .formats)) (setupFits (s .answered)) (setupFits (s .asked)) (stateFits (s .asked) (s .answered) (s .state)) (experimentFits (s .asked) (s .experiment)) e in
+    record { formats = k .0; answered = k .1; asked = k .2; state = k .3; experiment = k .4 }
 
 fits-by : (s : Settings) → Listed s → settingsFit s ≡ true
-fits-by s k = rw (k .formats, k .answered, k .asked, k .state)
+fits-by s k = rw (k .formats, k .answered, k .asked, k .state, k .experiment)
 
 pub bare-fits : Fits bareSettings
 bare-fits = record { lists = refl; high = λ m h. refl }
@@ -81,12 +84,16 @@ learn-fits (Formatted mode f) good s k =
     let l = listed s (k .lists) in
     let low : mode ≤ lastMode = leb-true mode lastMode (and-left (leb mode lastMode) (formatFits (some f)) good) in
     record {
-      lists = fits-by (learn (Formatted mode f) s) (record { formats = formats-set modeCount mode f (s .formats) (and-right (leb mode lastMode) (formatFits (some f)) good) (l .formats); answered = l .answered; asked = l .asked; state = l .state });
+      lists = fits-by (learn (Formatted mode f) s) (record { formats = formats-set modeCount mode f (s .formats) (and-right (leb mode lastMode) (formatFits (some f)) good) (l .formats); answered = l .answered; asked = l .asked; state = l .state; experiment = l .experiment });
       high = λ m h. rw (ne-eqb mode m (λ (e : mode ≡ m). omega arith)) (k .high m h);
     }
 learn-fits (Answered x) good s k =
     let l = listed s (k .lists) in
-    record { lists = fits-by (learn (Answered x) s) (record { formats = l .formats; answered = good; asked = l .asked; state = answered-state (s .asked) x }); high = k .high }
-learn-fits (Asked x) good s k =
+    record { lists = fits-by (learn (Answered x) s) (record { formats = l .formats; answered = good; asked = l .asked; state = answered-state (s .asked) x; experiment = l .experiment }); high = k .high }
+learn-fits (Asked x n) good s k =
     let l = listed s (k .lists) in
-    record { lists = fits-by (learn (Asked x) s) (record { formats = l .formats; answered = l .answered; asked = good; state = asked-state x (s .answered) }); high = k .high }
+    let small = ltb n experimentCount in
+    record {
+      lists = fits-by (learn (Asked x n) s) (record { formats = l .formats; answered = l .answered; asked = and-left (setupFits (some x)) small good; state = asked-state x (s .answered); experiment = and-right (setupFits (some x)) small good });
+      high = k .high;
+    }

@@ -6,7 +6,7 @@ use mathlib.Core.Option.{Option, none, some}
 use lib.Dec.{eqb}
 use lib.ListN.{getD, take, drop, replicate}
 use Rattle.protocol.specs.Form.{upFrom}
-use Rattle.rules.specs.Layout.{modeCount, places, stride, tableSize, wiringIndex, portIndex, deviceIndex, firstIndex, secondIndex, stateIndex, askedIndex, answeredIndex, formatsIndex}
+use Rattle.rules.specs.Layout.{modeCount, places, stride, tableSize, wiringIndex, portIndex, deviceIndex, firstIndex, secondIndex, stateIndex, askedIndex, answeredIndex, experimentIndex, formatsIndex}
 use Rattle.rules.specs.Facts.{Setup, Format, Wiring, Unjoined, Joined, Virtual, Settings}
 use Rattle.rules.specs.Table.{Record, Table}
 use Rattle.rules.specs.WellFormed.{wellFormed}
@@ -43,7 +43,7 @@ abbrev pub modes : List ℕ
 modes = upFrom 0 modeCount
 
 abbrev pub settingsCells : Settings → List ℕ
-settingsCells s = s .state ∷ (setupCells (s .asked) ++ setupCells (s .answered) ++ formatCells (s .formats) modes)
+settingsCells s = s .state ∷ (setupCells (s .asked) ++ (s .experiment ∷ (setupCells (s .answered) ++ formatCells (s .formats) modes)))
 
 unfoldable pub recordCells : Record → List ℕ
 recordCells r =
@@ -86,6 +86,7 @@ settingsAt c = record {
   answered = setupFrom c answeredIndex;
   asked = setupFrom c askedIndex;
   state = cellAt c stateIndex;
+  experiment = cellAt c experimentIndex;
 }
 
 unfoldable pub recordAt : List ℕ → Record

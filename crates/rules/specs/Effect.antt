@@ -20,37 +20,38 @@ emptiesTable a = between 0x30 0x32 a
 abbrev pub actionEffect : ℕ → Effect
 actionEffect a = cond (emptiesTable a) Empty Nothing
 
-unfoldable pub effectOf : Message → Effect
-effectOf (Message'.PropertyCommand p o) = Nothing
-effectOf (Message'.PropertyText p o) = Nothing
-effectOf (Message'.PropertyByte p o v) = Nothing
-effectOf (Message'.PropertyRssi o v) = Nothing
-effectOf (Message'.PropertyVersion p o v) = Nothing
-effectOf (Message'.PropertyProtocol o v) = Nothing
-effectOf (Message'.PropertyAddress p o v) = Nothing
-effectOf (Message'.HubAction a) = actionEffect a
-effectOf (Message'.AlertCommand a o) = Nothing
-effectOf (Message'.AlertUpdate a v) = Nothing
-effectOf (Message'.Detached port) = Detach port
-effectOf (Message'.Attached port device h s) = Attach port device
-effectOf (Message'.AttachedVirtual port device a b) = AttachVirtual port device a b
-effectOf (Message'.GenericError c e) = Nothing
-effectOf Message'.GoIntoBootMode = Nothing
-effectOf Message'.LockMemory = Nothing
-effectOf Message'.LockStatusRequest = Nothing
-effectOf (Message'.LockStatus v) = Nothing
-effectOf (Message'.PortInformationRequest port i) = ToPort port Unchanged
-effectOf (Message'.ModeInformationRequest port m i) = ToPort port Unchanged
-effectOf (Message'.InputFormatSetup port m d n) = ToPort port (Asked (setup m d n))
-effectOf (Message'.PortModes port c n i o) = ToPort port Unchanged
-effectOf (Message'.PortCombinations port c) = ToPort port Unchanged
-effectOf (Message'.ModeText port m i) = ToPort port Unchanged
-effectOf (Message'.ModeRange port m i l h) = ToPort port Unchanged
-effectOf (Message'.ModeMapping port m v) = ToPort port Unchanged
-effectOf (Message'.ModeBias port m v) = ToPort port Unchanged
-effectOf (Message'.ModeCapabilities port m v) = ToPort port Unchanged
-effectOf (Message'.ValueFormat port m n k f d) = ToPort port (Formatted m (record { datasets = n; kind = k; figures = f; decimals = d }))
-effectOf (Message'.PortValue port) = Value port
-effectOf (Message'.InputFormat port m d n) = ToPort port (Answered (setup m d n))
-effectOf (Message'.VirtualDisconnect port) = Disconnect port
-effectOf (Message'.VirtualConnect a b) = Connect a b
+-- a message with its experiment number, which only a 41 hands on
+unfoldable pub effectOf : ℕ → Message → Effect
+effectOf experiment (Message'.PropertyCommand p o) = Nothing
+effectOf experiment (Message'.PropertyText p o) = Nothing
+effectOf experiment (Message'.PropertyByte p o v) = Nothing
+effectOf experiment (Message'.PropertyRssi o v) = Nothing
+effectOf experiment (Message'.PropertyVersion p o v) = Nothing
+effectOf experiment (Message'.PropertyProtocol o v) = Nothing
+effectOf experiment (Message'.PropertyAddress p o v) = Nothing
+effectOf experiment (Message'.HubAction a) = actionEffect a
+effectOf experiment (Message'.AlertCommand a o) = Nothing
+effectOf experiment (Message'.AlertUpdate a v) = Nothing
+effectOf experiment (Message'.Detached port) = Detach port
+effectOf experiment (Message'.Attached port device h s) = Attach port device
+effectOf experiment (Message'.AttachedVirtual port device a b) = AttachVirtual port device a b
+effectOf experiment (Message'.GenericError c e) = Nothing
+effectOf experiment Message'.GoIntoBootMode = Nothing
+effectOf experiment Message'.LockMemory = Nothing
+effectOf experiment Message'.LockStatusRequest = Nothing
+effectOf experiment (Message'.LockStatus v) = Nothing
+effectOf experiment (Message'.PortInformationRequest port i) = ToPort port Unchanged
+effectOf experiment (Message'.ModeInformationRequest port m i) = ToPort port Unchanged
+effectOf experiment (Message'.InputFormatSetup port m d n) = ToPort port (Asked (setup m d n) experiment)
+effectOf experiment (Message'.PortModes port c n i o) = ToPort port Unchanged
+effectOf experiment (Message'.PortCombinations port c) = ToPort port Unchanged
+effectOf experiment (Message'.ModeText port m i) = ToPort port Unchanged
+effectOf experiment (Message'.ModeRange port m i l h) = ToPort port Unchanged
+effectOf experiment (Message'.ModeMapping port m v) = ToPort port Unchanged
+effectOf experiment (Message'.ModeBias port m v) = ToPort port Unchanged
+effectOf experiment (Message'.ModeCapabilities port m v) = ToPort port Unchanged
+effectOf experiment (Message'.ValueFormat port m n k f d) = ToPort port (Formatted m (record { datasets = n; kind = k; figures = f; decimals = d }))
+effectOf experiment (Message'.PortValue port) = Value port
+effectOf experiment (Message'.InputFormat port m d n) = ToPort port (Answered (setup m d n))
+effectOf experiment (Message'.VirtualDisconnect port) = Disconnect port
+effectOf experiment (Message'.VirtualConnect a b) = Connect a b

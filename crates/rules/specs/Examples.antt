@@ -23,10 +23,14 @@ use Rattle.rules.specs.WellFormed.{wellFormed}
 -- ---- messages
 
 abbrev up : List ℕ → Entry
-up s = record { way = Up; bytes = s }
+up s = record { way = Up; bytes = s; experiment = 0 }
 
 abbrev down : List ℕ → Entry
-down s = record { way = Down; bytes = s }
+down s = record { way = Down; bytes = s; experiment = 0 }
+
+-- a message with another experiment number
+abbrev during : ℕ → Entry → Entry
+during n e = record { way = e .way; bytes = e .bytes; experiment = n }
 
 abbrev attached : ℕ → Entry
 attached port = up (0x0F ∷ 0x00 ∷ 0x04 ∷ port ∷ 0x01 ∷ 0x26 ∷ 0x00 ∷ 0x00 ∷ 0x00 ∷ 0x00 ∷ 0x10 ∷ 0x00 ∷ 0x00 ∷ 0x00 ∷ 0x10 ∷ [])
@@ -104,6 +108,8 @@ pub data Outcome : Type 0 where
   present : ℕ → Wiring → Outcome
   -- a mode's format
   known : Option Format → Outcome
+  -- a port's experiment number
+  numbered : ℕ → Outcome
   -- whether a table is well formed
   fits : Bool → Outcome
 
@@ -119,6 +125,10 @@ abbrev formatOf : ℕ → Option Facts → Outcome
 formatOf mode none = absent
 formatOf mode (some f) = known (f .settings .formats mode)
 
+abbrev numberOf : Option Facts → Outcome
+numberOf none = absent
+numberOf (some f) = numbered (f .settings .experiment)
+
 abbrev offers : List Entry → Entry → Answer (Unit {0}) → Example
 offers before e a = record { said = offered (outcome (offerByPast (latestFirst [] before) e)); wanted = offered a }
 
@@ -129,7 +139,7 @@ abbrev refuses : List Entry → Entry → ℕ → Example
 refuses before e n = offers before e (refused n 0)
 
 abbrev hands : List Entry → Entry → ℕ → Answer Dataset → Example
-hands before e n a = record { said = dataset (datasetByPast (latestFirst [] before) e n); wanted = dataset a }
+hands before e n a = record { said = dataset (datasetByPast (latestFirst [] before) (e .way) (e .bytes) n); wanted = dataset a }
 
 abbrev knows : List Entry → ℕ → Outcome → Example
 knows before port o = record { said = portOf (viewOfPast (latestFirst [] before) port); wanted = o }
@@ -138,15 +148,21 @@ knows before port o = record { said = portOf (viewOfPast (latestFirst [] before)
 abbrev formats : List Entry → ℕ → Option Format → Example
 formats before mode f = record { said = formatOf mode (viewOfPast (latestFirst [] before) 0); wanted = known f }
 
+abbrev numbers : List Entry → ℕ → Example
+numbers before n = record { said = numberOf (viewOfPast (latestFirst [] before) 0); wanted = numbered n }
+
 -- ---- tables, which the reader does not have: a few records, and whether they are well formed
 
 abbrev wired : ℕ → Wiring → Option Record
 wired port w = some (record { port = port; facts = record { device = 0x26; wiring = w; settings = bareSettings } })
 
--- one port with what was answered, what was asked, and the state
+-- one port with what was answered, what was asked, the state and the experiment number
+abbrev settled : Option Setup → Option Setup → ℕ → ℕ → Table
+settled answered asked state experiment =
+    some (record { port = 0; facts = record { device = 0x26; wiring = Unjoined; settings = record { formats = λ mode. none; answered = answered; asked = asked; state = state; experiment = experiment } } }) ∷ []
+
 abbrev stated : Option Setup → Option Setup → ℕ → Table
-stated answered asked state =
-    some (record { port = 0; facts = record { device = 0x26; wiring = Unjoined; settings = record { formats = λ mode. none; answered = answered; asked = asked; state = state } } }) ∷ []
+stated answered asked state = settled answered asked state 0
 
 -- one port with a format of mode 2: datasets, kind
 abbrev formatted : ℕ → ℕ → Table
@@ -179,7 +195,7 @@ sixteen = map attached (upFrom 0 16)
 
 -- a value of two datasets of a kind, and the second of them
 abbrev second : ℕ → List ℕ → Number → Example
-second kind bytes n = hands (attached 0 ∷ format 2 2 kind ∷ answered 2 1 1 ∷ []) (value bytes) 1 (stamped 0 2 0 n)
+second kind bytes n = hands (attached 0 ∷ format 2 2 kind ∷ answered 2 1 1 ∷ []) (value bytes) 1 (stamped 0 2 0 0 n)
 
 -- the six records of the log reader's section
 abbrev theLog : List Example
@@ -189,17 +205,35 @@ theLog =
     ∷ refuses motor five 14
     ∷ accepts motor (asked 2 1 1)
     ∷ accepts (motor ++ (asked 2 1 1 ∷ [])) (answered 2 1 1)
-    ∷ hands (motor ++ (asked 2 1 1 ∷ answered 2 1 1 ∷ [])) five 0 (stamped 0 2 2 (whole 5))
+    ∷ hands (motor ++ (asked 2 1 1 ∷ answered 2 1 1 ∷ [])) five 0 (stamped 0 2 2 0 (whole 5))
     ∷ []
 
 -- states 0, 1 (read by the mode that was answered, not by the one asked for) and 3: another delta, notify, mode
 abbrev states : List Example
 states =
-    hands (motor ++ (answered 2 1 1 ∷ [])) five 0 (stamped 0 2 0 (whole 5))
-    ∷ hands (motor ++ (format 3 1 0 ∷ answered 2 1 1 ∷ asked 3 1 1 ∷ [])) five 0 (stamped 0 2 1 (whole 5))
-    ∷ hands (motor ++ (asked 2 1 1 ∷ answered 2 9 1 ∷ [])) five 0 (stamped 0 2 3 (whole 5))
-    ∷ hands (motor ++ (asked 2 1 1 ∷ answered 2 1 0 ∷ [])) five 0 (stamped 0 2 3 (whole 5))
-    ∷ hands (motor ++ (asked 3 1 1 ∷ answered 2 1 1 ∷ [])) five 0 (stamped 0 2 3 (whole 5))
+    hands (motor ++ (answered 2 1 1 ∷ [])) five 0 (stamped 0 2 0 0 (whole 5))
+    ∷ hands (motor ++ (format 3 1 0 ∷ answered 2 1 1 ∷ asked 3 1 1 ∷ [])) five 0 (stamped 0 2 1 0 (whole 5))
+    ∷ hands (motor ++ (asked 2 1 1 ∷ answered 2 9 1 ∷ [])) five 0 (stamped 0 2 3 0 (whole 5))
+    ∷ hands (motor ++ (asked 2 1 1 ∷ answered 2 1 0 ∷ [])) five 0 (stamped 0 2 3 0 (whole 5))
+    ∷ hands (motor ++ (asked 3 1 1 ∷ answered 2 1 1 ∷ [])) five 0 (stamped 0 2 3 0 (whole 5))
+    ∷ []
+
+-- experiment numbers
+abbrev experiments : List Example
+experiments =
+    -- the 41's, not the 47's, in state 2 only; the port keeps its number in states 1 and 3
+    hands (motor ++ (during 7 (asked 2 1 1) ∷ during 8 (answered 2 1 1) ∷ [])) five 0 (stamped 0 2 2 7 (whole 5))
+    ∷ hands (motor ++ (answered 2 1 1 ∷ during 7 (asked 2 1 1) ∷ [])) five 0 (stamped 0 2 1 0 (whole 5))
+    ∷ hands (motor ++ (during 7 (asked 2 1 1) ∷ answered 2 9 1 ∷ [])) five 0 (stamped 0 2 3 0 (whole 5))
+    ∷ numbers (motor ++ (answered 2 1 1 ∷ during 7 (asked 2 1 1) ∷ [])) 7
+    ∷ numbers (motor ++ (during 7 (asked 2 1 1) ∷ answered 2 9 1 ∷ [])) 7
+    -- the latest 41's; a refused one leaves no trace: another mode than there is, a port that is not present
+    ∷ numbers (motor ++ (during 7 (asked 2 1 1) ∷ during 65535 (asked 2 1 1) ∷ [])) 65535
+    ∷ numbers (motor ++ (during 7 (asked 2 1 1) ∷ during 8 (asked 16 1 1) ∷ [])) 7
+    ∷ numbers (during 7 (asked 2 1 1) ∷ motor) 0
+    -- nor does any message that is no 41; 0 before any 41, and after a new attachment
+    ∷ numbers (map (during 7) motor ++ (during 8 (answered 2 1 1) ∷ during 9 five ∷ [])) 0
+    ∷ numbers (motor ++ (during 7 (asked 2 1 1) ∷ detached 0 ∷ attached 0 ∷ [])) 0
     ∷ []
 
 -- 11, before 12
@@ -276,7 +310,7 @@ wirings =
     ∷ table (wired 0 (Joined 16) ∷ wired 16 (Virtual 0 1) ∷ wired 1 (Joined 16) ∷ wired 2 (Joined 16) ∷ []) false
     ∷ []
 
--- states that fit, and that don't; fields outside their lists
+-- states and experiment numbers that fit, and that don't; fields outside their lists
 abbrev fields : List Example
 fields =
     table (stated none none 1) false
@@ -288,6 +322,9 @@ fields =
     ∷ table (stated (some (setup 2 1 0)) (some (setup 2 1 1)) 3) true
     ∷ table (stated (some (setup 16 1 1)) none 0) false
     ∷ table (stated (some (setup 2 1 2)) none 0) false
+    ∷ table (settled none (some (setup 2 1 1)) 1 65535) true
+    ∷ table (settled none (some (setup 2 1 1)) 1 65536) false
+    ∷ table (settled (some (setup 2 1 1)) none 0 1) false
     ∷ table (formatted 16 3) true
     ∷ table (formatted 17 3) false
     ∷ table (formatted 0 3) false
@@ -319,6 +356,7 @@ ExamplesHold =
     × Disconnections
     × Hold theLog
     × Hold states
+    × Hold experiments
     × Hold attachments
     × Hold pairs
     × Hold sixteenPorts

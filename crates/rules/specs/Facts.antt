@@ -17,6 +17,8 @@ pub record Settings : Type 0 where
   -- 0 nothing asked; 1 asked, no 47 since; 2 the latest 47 came after the latest 41 with equal mode, delta and notify;
   -- 3 it came after and differs
   pub state : ℕ
+  -- the experiment number that came with the last 41; 0 before any
+  pub experiment : ℕ
 
 pub record Facts : Type 0 where
   pub device : ℕ

@@ -39,7 +39,7 @@ sizeRefusal f count = cond (eqb count (f .datasets * widthOf (f .kind))) 0 16
 -- a value of so many bytes, by what it is read by
 abbrev pub judgeValue : ValueLookup → ℕ → ℕ
 judgeValue (Refused n) count = n
-judgeValue (Found mode state f) count = sizeRefusal f count
+judgeValue (Found mode state experiment f) count = sizeRefusal f count
 
 -- 10, then 12 for a physical port
 abbrev pub judgeDisconnect : Option Facts → ℕ

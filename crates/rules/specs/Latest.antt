@@ -22,19 +22,31 @@ abbrev pub formatFor : ℕ → Change → Option Format
 formatFor mode Unchanged = none
 formatFor mode (Formatted m f) = cond (eqb m mode) (some f) none
 formatFor mode (Answered s) = none
-formatFor mode (Asked s) = none
+formatFor mode (Asked s n) = none
 
 abbrev pub answer : Change → Option Setup
 answer Unchanged = none
 answer (Formatted m f) = none
 answer (Answered s) = some s
-answer (Asked s) = none
+answer (Asked s n) = none
 
 abbrev pub asking : Change → Option Setup
 asking Unchanged = none
 asking (Formatted m f) = none
 asking (Answered s) = none
-asking (Asked s) = some s
+asking (Asked s n) = some s
+
+-- and the experiment number that came with a 41
+abbrev pub askingNumber : Change → Option ℕ
+askingNumber Unchanged = none
+askingNumber (Formatted m f) = none
+askingNumber (Answered s) = none
+askingNumber (Asked s n) = some n
+
+-- 0 before any
+abbrev pub orZero : Option ℕ → ℕ
+orZero none = 0
+orZero (some n) = n
 
 -- what came after the latest 41
 abbrev pub unlessAsking : Option Setup → List Change → List Change
@@ -61,4 +73,5 @@ settingsOf changes = record {
   answered = latest answer changes;
   asked = latest asking changes;
   state = stateBy (latest asking changes) (latest answer (sinceAsking changes));
+  experiment = orZero (latest askingNumber changes);
 }

@@ -1,16 +1,19 @@
 -- Laws of the table that come with demand 3. They are proved in proofs/Laws.antt.
 use Prim.Native.Nat.{ℕ}
 use mathlib.Core.Path.{_≡_}
-use mathlib.Core.Bool.{true}
-use mathlib.Core.List.{List, _∷_, _++_}
+use mathlib.Core.Bool.{Bool, true, false}
+use mathlib.Core.List.{List, [], _∷_, _++_}
 use mathlib.Core.Option.{none, some}
 use lib.ListN.{replicate}
-use Rattle.protocol.specs.Number.{Bytes}
+use Rattle.protocol.specs.declared.Way.{Way}
 use Rattle.rules.specs.Table.{Record, Table, fullTable, insert, remove}
 use Rattle.rules.specs.Layout.{stride}
-use Rattle.rules.specs.Answer.{refused}
-use Rattle.rules.specs.Cells.{placeCells, sound, emptyCells}
-use Rattle.rules.specs.Offer.{Entry, offerByCells, cellsAfter}
+use Rattle.rules.specs.Answer.{Answer, refused, accepted, outcome}
+use Rattle.rules.specs.Cells.{placeCells, tableAt, sound, emptyCells}
+use Rattle.rules.specs.Effect.{Change, Unchanged, Formatted, Answered, Asked, Effect, Nothing, ToPort, Attach, AttachVirtual, Detach, Value, Disconnect, Connect, Empty}
+use Rattle.rules.specs.Dataset.{Dataset}
+use Rattle.rules.specs.Offer.{Entry, offerByCells, cellsAfter, datasetByCells}
+use Rattle.rules.specs.Demand3.{EntryFits}
 
 -- the empty table is sound
 abbrev pub EmptySound : Type 0
@@ -18,7 +21,7 @@ EmptySound = sound emptyCells ≡ true
 
 -- every message keeps a sound table sound
 abbrev pub StepKeepsSound : Type 0
-StepKeepsSound = (cells : List ℕ) (e : Entry) → Bytes (e .bytes) → sound cells ≡ true → sound (cellsAfter cells e) ≡ true
+StepKeepsSound = (cells : List ℕ) (e : Entry) → EntryFits e → sound cells ≡ true → sound (cellsAfter cells e) ≡ true
 
 -- a refused message leaves the table as it was
 abbrev pub RefusedChangesNothing : Type 0
@@ -31,3 +34,57 @@ FreedIsEmpty = (port : ℕ) (r : Record) (t : Table) → r .port ≡ port → (r
 -- a new record takes the lowest free place
 abbrev pub LowestPlace : Type 0
 LowestPlace = (new : Record) (before rest : Table) → fullTable before ≡ true → insert new (before ++ (none ∷ rest)) ≡ before ++ (some new ∷ rest)
+
+-- ---- experiment numbers
+
+abbrev pub asks : Change → Bool
+asks Unchanged = false
+asks (Formatted m f) = false
+asks (Answered s) = false
+asks (Asked s n) = true
+
+-- an accepted 41
+abbrev pub isAsking : Effect → Bool
+isAsking Nothing = false
+isAsking (ToPort port c) = asks c
+isAsking (Attach port device) = false
+isAsking (AttachVirtual port device a b) = false
+isAsking (Detach port) = false
+isAsking (Value port) = false
+isAsking (Disconnect port) = false
+isAsking (Connect a b) = false
+isAsking Empty = false
+
+abbrev pub acceptedAsking : Answer Effect → Bool
+acceptedAsking (refused n place) = false
+acceptedAsking (accepted e) = isAsking e
+
+abbrev pub numbered : Way → List ℕ → ℕ → Entry
+numbered way bytes n = record { way = way; bytes = bytes; experiment = n }
+
+-- whether a message is accepted does not depend on its number; nor does the table afterwards, unless it is an accepted 41
+abbrev pub NumberOfAskingOnly : Type 0
+NumberOfAskingOnly =
+    (cells : List ℕ) (way : Way) (bytes : List ℕ) (n m : ℕ)
+    → (outcome (offerByCells cells (numbered way bytes n)) ≡ outcome (offerByCells cells (numbered way bytes m)))
+    × (acceptedAsking (offerByCells cells (numbered way bytes n)) ≡ false → cellsAfter cells (numbered way bytes n) ≡ cellsAfter cells (numbered way bytes m))
+
+-- every record's number is 0
+abbrev pub NoNumbers : Table → Type 0
+NoNumbers [] = Unit {0}
+NoNumbers (none ∷ t) = NoNumbers t
+NoNumbers (some r ∷ t) = (r .facts .settings .experiment ≡ 0) × NoNumbers t
+
+abbrev pub datasetExperiment : Answer Dataset → ℕ
+datasetExperiment (refused n place) = 0
+datasetExperiment (accepted d) = d .experiment
+
+-- so it is in the empty table, and stays so by messages whose number is 0; and then every value's is 0
+abbrev pub EmptyNoNumbers : Type 0
+EmptyNoNumbers = NoNumbers (tableAt emptyCells)
+
+abbrev pub StepKeepsNoNumbers : Type 0
+StepKeepsNoNumbers = (cells : List ℕ) (e : Entry) → EntryFits e → sound cells ≡ true → e .experiment ≡ 0 → NoNumbers (tableAt cells) → NoNumbers (tableAt (cellsAfter cells e))
+
+abbrev pub ValuesNoNumbers : Type 0
+ValuesNoNumbers = (cells : List ℕ) → NoNumbers (tableAt cells) → (way : Way) (bytes : List ℕ) (number : ℕ) → datasetExperiment (datasetByCells cells way bytes number) ≡ 0

@@ -10,13 +10,17 @@ portCount = 256
 abbrev pub modeCount : ℕ
 modeCount = suc lastMode
 
+-- experiment numbers are below it
+abbrev pub experimentCount : ℕ
+experimentCount = 65536
+
 -- records of a table
 abbrev pub places : ℕ
 places = 16
 
 -- cells of a place
 abbrev pub stride : ℕ
-stride = 28
+stride = 29
 
 -- cells of a table
 abbrev pub tableSize : ℕ
@@ -43,13 +47,17 @@ secondIndex = 4
 abbrev pub stateIndex : ℕ
 stateIndex = 5
 
--- the first of three: the mode plus one (0: none), the delta, the notify
+-- three cells each, from here on: the mode plus one (0: none), the delta, the notify
 abbrev pub askedIndex : ℕ
 askedIndex = 6
 
+-- the experiment number that came with the latest 41; 0 before any
+abbrev pub experimentIndex : ℕ
+experimentIndex = 9
+
 abbrev pub answeredIndex : ℕ
-answeredIndex = 9
+answeredIndex = 10
 
 -- the first of sixteen, by mode: 0 none, else the format's four bytes, the first the least significant
 abbrev pub formatsIndex : ℕ
-formatsIndex = 12
+formatsIndex = 13

@@ -17,10 +17,10 @@ answeredState (some s) t = cond (sameSetup s t) 2 3
 
 -- of a port that has just been attached
 abbrev pub bareSettings : Settings
-bareSettings = record { formats = λ mode. none; answered = none; asked = none; state = 0 }
+bareSettings = record { formats = λ mode. none; answered = none; asked = none; state = 0; experiment = 0 }
 
 unfoldable pub learn : Change → Settings → Settings
 learn Unchanged s = s
-learn (Formatted mode f) s = record { formats = λ m. cond (eqb mode m) (some f) (s .formats m); answered = s .answered; asked = s .asked; state = s .state }
-learn (Answered x) s = record { formats = s .formats; answered = some x; asked = s .asked; state = answeredState (s .asked) x }
-learn (Asked x) s = record { formats = s .formats; answered = s .answered; asked = some x; state = 1 }
+learn (Formatted mode f) s = record { formats = λ m. cond (eqb mode m) (some f) (s .formats m); answered = s .answered; asked = s .asked; state = s .state; experiment = s .experiment }
+learn (Answered x) s = record { formats = s .formats; answered = some x; asked = s .asked; state = answeredState (s .asked) x; experiment = s .experiment }
+learn (Asked x n) s = record { formats = s .formats; answered = s .answered; asked = some x; state = 1; experiment = n }

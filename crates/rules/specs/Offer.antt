@@ -1,4 +1,5 @@
--- Offering a message and handing out a dataset: by the lent cells of a table, and by the list of earlier messages.
+-- Offering a message with its experiment number, and handing out a dataset: by the lent cells of a table, and by the list of
+-- earlier entries.
 use Prim.Native.Nat.{ℕ}
 use mathlib.Core.Bool.{cond}
 use mathlib.Core.List.{List, [], _∷_}
@@ -16,27 +17,29 @@ use Rattle.rules.specs.History.{History, viewOfHistory, modesOfHistory, 
 use Rattle.rules.specs.Table.{viewOfTable, modesOfTable, portsOfTable, apply}
 use Rattle.rules.specs.Cells.{cellsOf, tableAt, sound}
 
--- a message: any bytes, with their direction
+-- an entry of a list: a message, any bytes with their direction, and the experiment number that comes with it
 pub record Entry : Type 0 where
   pub way : Way
   pub bytes : List ℕ
+  pub experiment : ℕ
 
 -- what an accepted message is to a table; reading comes first, then 10 to 16
-abbrev pub judgeReading : Ports → List ℕ → Decode.Answer → Answer Effect
-judgeReading ports s (Decode.refused n place) = refused n place
-judgeReading ports s (Decode.accepted f vs) =
-    let e = effectOf (messageOf f vs) in
+abbrev pub judgeReading : Ports → List ℕ → ℕ → Decode.Answer → Answer Effect
+judgeReading ports s experiment (Decode.refused n place) = refused n place
+judgeReading ports s experiment (Decode.accepted f vs) =
+    let e = effectOf experiment (messageOf f vs) in
     unlessRefused (judge ports e (length (openOf s (Decode.accepted f vs)))) (accepted e)
 
 unfoldable pub judgeEntry : Ports → Entry → Answer Effect
-judgeEntry ports e = judgeReading ports (e .bytes) (decode (e .way) (e .bytes))
+judgeEntry ports e = judgeReading ports (e .bytes) (e .experiment) (decode (e .way) (e .bytes))
 
+-- handing out takes no experiment number: the 0 is that of a 41, which has no datasets
 abbrev pub datasetReading : Ports → List ℕ → ℕ → Decode.Answer → Answer Dataset
 datasetReading ports s number (Decode.refused n place) = refused n place
-datasetReading ports s number (Decode.accepted f vs) = datasetAnswer ports (effectOf (messageOf f vs)) (openOf s (Decode.accepted f vs)) number
+datasetReading ports s number (Decode.accepted f vs) = datasetAnswer ports (effectOf 0 (messageOf f vs)) (openOf s (Decode.accepted f vs)) number
 
-unfoldable pub datasetEntry : Ports → Entry → ℕ → Answer Dataset
-datasetEntry ports e number = datasetReading ports (e .bytes) number (decode (e .way) (e .bytes))
+unfoldable pub datasetMessage : Ports → Way → List ℕ → ℕ → Answer Dataset
+datasetMessage ports way bytes number = datasetReading ports bytes number (decode way bytes)
 
 -- ---- by the cells of a table
 
@@ -55,8 +58,8 @@ appliedTo cells (accepted e) = cellsOf (apply e (tableAt cells))
 unfoldable pub cellsAfter : List ℕ → Entry → List ℕ
 cellsAfter cells e = appliedTo cells (offerByCells cells e)
 
-unfoldable pub datasetByCells : List ℕ → Entry → ℕ → Answer Dataset
-datasetByCells cells e number = cond (sound cells) (datasetEntry (portsOfCells cells) e number) (refused 9 0)
+unfoldable pub datasetByCells : List ℕ → Way → List ℕ → ℕ → Answer Dataset
+datasetByCells cells way bytes number = cond (sound cells) (datasetMessage (portsOfCells cells) way bytes number) (refused 9 0)
 
 abbrev pub viewOfCells : List ℕ → View
 viewOfCells cells = viewOfTable (tableAt cells)
@@ -64,7 +67,7 @@ viewOfCells cells = viewOfTable (tableAt cells)
 abbrev pub modesOfCells : List ℕ → Modes
 modesOfCells cells = modesOfTable (tableAt cells)
 
--- ---- without a table, by the earlier messages, the latest first
+-- ---- without a table, by the earlier entries, the latest first
 
 abbrev pub extendHistory : History → Answer Effect → History
 extendHistory h (refused n place) = h
@@ -78,8 +81,8 @@ acceptedHistory (e ∷ past) = extendHistory (acceptedHistory past) (judgeEntry 
 abbrev pub offerByPast : List Entry → Entry → Answer Effect
 offerByPast past e = judgeEntry (portsOfHistory (acceptedHistory past)) e
 
-abbrev pub datasetByPast : List Entry → Entry → ℕ → Answer Dataset
-datasetByPast past e number = datasetEntry (portsOfHistory (acceptedHistory past)) e number
+abbrev pub datasetByPast : List Entry → Way → List ℕ → ℕ → Answer Dataset
+datasetByPast past way bytes number = datasetMessage (portsOfHistory (acceptedHistory past)) way bytes number
 
 abbrev pub viewOfPast : List Entry → View
 viewOfPast past = viewOfHistory (acceptedHistory past)

@@ -3,7 +3,7 @@ use mathlib.Core.Bool.{Bool, true, _&&_}
 use mathlib.Core.Option.{some}
 use lib.Dec.{leb, ltb}
 use Rattle.protocol.specs.Form.{lastMode}
-use Rattle.rules.specs.Layout.{portCount}
+use Rattle.rules.specs.Layout.{portCount, experimentCount}
 use Rattle.rules.specs.Effect.{Change, Unchanged, Formatted, Answered, Asked, Effect, Nothing, ToPort, Attach, AttachVirtual, Detach, Value, Disconnect, Connect, Empty}
 use Rattle.rules.specs.WellFormed.{setupFits, formatFits}
 
@@ -11,7 +11,7 @@ abbrev pub changeFits : Change → Bool
 changeFits Unchanged = true
 changeFits (Formatted mode f) = leb mode lastMode && formatFits (some f)
 changeFits (Answered s) = setupFits (some s)
-changeFits (Asked s) = setupFits (some s)
+changeFits (Asked s n) = setupFits (some s) && ltb n experimentCount
 
 abbrev pub effectFits : Effect → Bool
 effectFits Nothing = true

@@ -1,5 +1,5 @@
 -- A sound table, in document 01's words: no port twice; a virtual record names two different physical records, both joined
--- to it, and nothing else is joined; fields within their lists; state fits its rule.
+-- to it, and nothing else is joined; fields within their lists; state fits its rule. The experiment number is 0 before any asking.
 use Prim.Native.Nat.{ℕ, zero, suc}
 use mathlib.Core.Bool.{Bool, true, false, cond, not, _&&_, _||_}
 use mathlib.Core.List.{[], _∷_}
@@ -7,7 +7,7 @@ use mathlib.Core.Option.{Option, none, some}
 use lib.Dec.{eqb, leb, ltb}
 use Rattle.protocol.specs.Form.{lastMode, lastNotify, mostDatasets, lastKind}
 use Rattle.protocol.specs.Rule.{between}
-use Rattle.rules.specs.Layout.{portCount, modeCount}
+use Rattle.rules.specs.Layout.{portCount, modeCount, experimentCount}
 use Rattle.rules.specs.Facts.{Setup, Format, Settings, Wiring, Unjoined, Joined, Virtual, Facts, View, known}
 use Rattle.rules.specs.Learn.{sameSetup}
 use Rattle.rules.specs.Table.{Record, Table, viewOfTable}
@@ -34,6 +34,11 @@ abbrev pub stateFits : Option Setup → Option Setup → ℕ → Bool
 stateFits none answered state = eqb state 0
 stateFits (some s) answered state = stateAfter s answered state
 
+-- before any asking only 0
+abbrev pub experimentFits : Option Setup → ℕ → Bool
+experimentFits none n = eqb n 0
+experimentFits (some s) n = ltb n experimentCount
+
 abbrev pub joinedTo : ℕ → Wiring → Bool
 joinedTo v Unjoined = false
 joinedTo v (Joined w) = eqb w v
@@ -57,9 +62,9 @@ wiringFits view port Unjoined = true
 wiringFits view port (Joined v) = ltb v portCount && isPairWith port (view v)
 wiringFits view port (Virtual a b) = ltb a portCount && ltb b portCount && not (eqb a b) && isJoinedTo port (view a) && isJoinedTo port (view b)
 
--- fields within their lists, and the state by its rule
+-- fields within their lists, the state and the experiment number by their rules
 abbrev pub settingsFit : Settings → Bool
-settingsFit s = formatsFit modeCount (s .formats) && setupFits (s .answered) && setupFits (s .asked) && stateFits (s .asked) (s .answered) (s .state)
+settingsFit s = formatsFit modeCount (s .formats) && setupFits (s .answered) && setupFits (s .asked) && stateFits (s .asked) (s .answered) (s .state) && experimentFits (s .asked) (s .experiment)
 
 abbrev pub factsFit : Facts → Bool
 factsFit f = ltb (f .device) 65536 && settingsFit (f .settings)

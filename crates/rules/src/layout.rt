@@ -9,9 +9,9 @@ pub const MODE_COUNT: usize = 16;
 // Records of a table, cells of a record's place, cells of a table.
 pub const PLACES: usize = 16;
 
-pub const STRIDE: usize = 28;
+pub const STRIDE: usize = 29;
 
-pub const TABLE_SIZE: usize = 448;
+pub const TABLE_SIZE: usize = 464;
 
 // 0 free, 1 physical and unjoined, 2 physical and joined, 3 virtual.
 pub const WIRING: usize = 0;
@@ -36,10 +36,13 @@ pub const SECOND: usize = 4;
 
 pub const STATE: usize = 5;
 
-// The first of three each: the mode plus one (0: none), the delta, the notify.
+// Three cells each, from here on: the mode plus one (0: none), the delta, the notify.
 pub const ASKED: usize = 6;
 
-pub const ANSWERED: usize = 9;
+// The experiment number that came with the latest 0x41; 0 before any.
+pub const EXPERIMENT: usize = 9;
+
+pub const ANSWERED: usize = 10;
 
 // The first of MODE_COUNT, by mode: 0 none, else the format's four bytes, the first the least significant.
-pub const FORMATS: usize = 12;
+pub const FORMATS: usize = 13;

@@ -33,8 +33,8 @@ pub enum Change {
     Formatted { mode: u8, format: Format },
     // 0x47
     Answered { setup: Setup },
-    // 0x41
-    Asked { setup: Setup },
+    // 0x41, with the experiment number that came with it
+    Asked { setup: Setup, experiment: u16 },
 }
 
 // What a message is to the port table.
@@ -78,9 +78,16 @@ pub enum Effect {
     Empty,
 }
 
-// What a value of a port is read by: the mode that the hub last answered, the port's state and that mode's format; or why
-// it can't be read: 10, 14 or 15.
+// What a value of a port is read by: the mode that the hub last answered, the port's state, the experiment number that the
+// value carries and that mode's format; or why it can't be read: 10, 14 or 15.
 pub enum ValueLookup {
-    Found { mode: u8, state: u8, format: Format },
-    Refused { number: u8 },
+    Found {
+        mode: u8,
+        state: u8,
+        experiment: u16,
+        format: Format,
+    },
+    Refused {
+        number: u8,
+    },
 }
