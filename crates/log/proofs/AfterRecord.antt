@@ -7,7 +7,7 @@ use lib.ListN.{getD}
 use Rattle.protocol.specs.declared.Way.{Way}
 use Rattle.rules.specs.Offer.{cellsAfter}
 use Rattle.log.specs.Line.{refused, entryLine, recordLine, cellsAfterRecord}
-use Rattle.log.specs.Record.{entryOf, malformed, messageIn, wayOf}
+use Rattle.log.specs.Record.{entryOf, malformed, messageIn, experimentIn, wayOf}
 
 module _ (part : ℕ) (cells s : List ℕ) where
   pub record-19 : malformed part s ≡ true → refused 19 ≡ recordLine part cells s
@@ -18,11 +18,11 @@ module _ (part : ℕ) (cells s : List ℕ) where
   unfolding cellsAfterRecord
   cells-19 e = sym (ap (λ (b : Bool). cond b cells (cellsAfter cells (entryOf part s))) e)
 
-  module _ (well : malformed part s ≡ false) (way : Way) (message : List ℕ) (way-is : way ≡ wayOf (getD s 4 0)) (message-is : message ≡ messageIn part s) where
-    pub record-entry : entryLine cells (record { way = way; bytes = message }) ≡ recordLine part cells s
+  module _ (well : malformed part s ≡ false) (way : Way) (message : List ℕ) (experiment : ℕ) (way-is : way ≡ wayOf (getD s 4 0)) (message-is : message ≡ messageIn part s) (experiment-is : experiment ≡ experimentIn s) where
+    pub record-entry : entryLine cells (record { way = way; bytes = message; experiment = experiment }) ≡ recordLine part cells s
     unfolding recordLine
-    record-entry = sym (ap (λ (b : Bool). cond b (refused 19) (entryLine cells (entryOf part s))) well ∙ (λ i. entryLine cells (record { way = sym way-is i; bytes = sym message-is i })))
+    record-entry = sym (ap (λ (b : Bool). cond b (refused 19) (entryLine cells (entryOf part s))) well ∙ (λ i. entryLine cells (record { way = sym way-is i; bytes = sym message-is i; experiment = sym experiment-is i })))
 
-    pub cells-entry : (after : List ℕ) → after ≡ cellsAfter cells (record { way = way; bytes = message }) → after ≡ cellsAfterRecord part cells s
+    pub cells-entry : (after : List ℕ) → after ≡ cellsAfter cells (record { way = way; bytes = message; experiment = experiment }) → after ≡ cellsAfterRecord part cells s
     unfolding cellsAfterRecord
-    cells-entry after k = k ∙ sym (ap (λ (b : Bool). cond b cells (cellsAfter cells (entryOf part s))) well ∙ (λ i. cellsAfter cells (record { way = sym way-is i; bytes = sym message-is i })))
+    cells-entry after k = k ∙ sym (ap (λ (b : Bool). cond b cells (cellsAfter cells (entryOf part s))) well ∙ (λ i. cellsAfter cells (record { way = sym way-is i; bytes = sym message-is i; experiment = sym experiment-is i })))

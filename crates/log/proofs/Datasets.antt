@@ -22,9 +22,9 @@ use Rattle.rules.specs.Dataset.{Dataset, Number, whole, float, stamped, floatDa
 use Rattle.log.specs.Dataset.{numberAt, numbersAt, finiteFrom}
 use Rattle.log.specs.Line.{refused, values, withNumber, followedBy, numbersFrom, withNumbers, valueLine}
 
-module _ (port mode state : ℕ) (f : Format) (bytes : List ℕ) where
+module _ (port mode state experiment : ℕ) (f : Format) (bytes : List ℕ) where
   abbrev dataset : ℕ → Answer Dataset
-  dataset = datasetOf port mode state f bytes
+  dataset = datasetOf port mode state experiment f bytes
 
   past-all : (k : ℕ) → f .datasets ≤ k → dataset k ≡ Answer.refused 17 0
   unfolding datasetOf
@@ -33,7 +33,7 @@ module _ (port mode state : ℕ) (f : Format) (bytes : List ℕ) where
   -- ---- whole numbers
 
   module _ (other : eqb (f .kind) 3 ≡ false) where
-    one-whole : (k : ℕ) → k < f .datasets → dataset k ≡ stamped port mode state (whole (numberAt (widthOf (f .kind)) bytes k))
+    one-whole : (k : ℕ) → k < f .datasets → dataset k ≡ stamped port mode state experiment (whole (numberAt (widthOf (f .kind)) bytes k))
     unfolding datasetOf
     one-whole k h = rw (lt-ltb k (f .datasets) h, other)
 
@@ -45,14 +45,14 @@ module _ (port mode state : ℕ) (f : Format) (bytes : List ℕ) where
         ap (λ (x : Answer Dataset). followedBy x (numbersFrom most dataset (suc k))) (one-whole k (omega arith))
         ∙ ap (withNumber (numberAt (widthOf (f .kind)) bytes k)) (wholes most (suc k) n (omega arith) (omega arith))
 
-    pub whole-line : 1 ≤ f .datasets → f .datasets ≤ mostDatasets → valueLine dataset ≡ values port mode state (numbersAt (widthOf (f .kind)) bytes 0 (f .datasets))
+    pub whole-line : 1 ≤ f .datasets → f .datasets ≤ mostDatasets → valueLine dataset ≡ values port mode state experiment (numbersAt (widthOf (f .kind)) bytes 0 (f .datasets))
     unfolding valueLine
     whole-line some-there few = λ i. withNumbers (one-whole 0 some-there i) (wholes mostDatasets 0 (f .datasets) few (omega arith) i)
 
   -- ---- floats
 
   module _ (is-float : eqb (f .kind) 3 ≡ true) (small : (k : ℕ) → k < f .datasets → numberAt 4 bytes k < 4294967296) where
-    one-float : (k : ℕ) → k < f .datasets → dataset k ≡ floatDataset port mode state (ofBits binary32 (numberAt 4 bytes k))
+    one-float : (k : ℕ) → k < f .datasets → dataset k ≡ floatDataset port mode state experiment (ofBits binary32 (numberAt 4 bytes k))
     unfolding datasetOf
     one-float k h = rw (lt-ltb k (f .datasets) h, is-float)
 
@@ -60,7 +60,7 @@ module _ (port mode state : ℕ) (f : Format) (bytes : List ℕ) where
     bits-back k h e = toBits-ofBits binary32 (numberAt 4 bytes k) (omega (arith, small k h)) (not-nan (ofBits binary32 (numberAt 4 bytes k)) e)
 
     -- a float that is finite, and one that is not
-    finite-one : (k : ℕ) → k < f .datasets → isFinite (ofBits binary32 (numberAt 4 bytes k)) ≡ true → dataset k ≡ stamped port mode state (float (ofBits binary32 (numberAt 4 bytes k)))
+    finite-one : (k : ℕ) → k < f .datasets → isFinite (ofBits binary32 (numberAt 4 bytes k)) ≡ true → dataset k ≡ stamped port mode state experiment (float (ofBits binary32 (numberAt 4 bytes k)))
     finite-one k h e = rw (one-float k h, e)
 
     other-one : (k : ℕ) → k < f .datasets → isFinite (ofBits binary32 (numberAt 4 bytes k)) ≡ false → dataset k ≡ Answer.refused 18 0
@@ -93,12 +93,12 @@ module _ (port mode state : ℕ) (f : Format) (bytes : List ℕ) where
     first-finite : (n : ℕ) → finiteFrom bytes 0 (suc n) ≡ true → isFinite (ofBits binary32 (numberAt 4 bytes 0)) ≡ true
     first-finite n e = and-left (isFinite (ofBits binary32 (numberAt 4 bytes 0))) (finiteFrom bytes 1 n) e
 
-    pub float-line : 1 ≤ f .datasets → f .datasets ≤ mostDatasets → finiteFrom bytes 0 (f .datasets) ≡ true → valueLine dataset ≡ values port mode state (numbersAt 4 bytes 0 (f .datasets))
+    pub float-line : 1 ≤ f .datasets → f .datasets ≤ mostDatasets → finiteFrom bytes 0 (f .datasets) ≡ true → valueLine dataset ≡ values port mode state experiment (numbersAt 4 bytes 0 (f .datasets))
     unfolding valueLine
     float-line some-there few e =
         let n : ℕ = f .datasets - 1 in
         let count : f .datasets ≡ suc n = omega arith in
-        let first : dataset 0 ≡ stamped port mode state (float (ofBits binary32 (numberAt 4 bytes 0))) = finite-one 0 some-there (first-finite n (sym (ap (finiteFrom bytes 0) count) ∙ e)) in
+        let first : dataset 0 ≡ stamped port mode state experiment (float (ofBits binary32 (numberAt 4 bytes 0))) = finite-one 0 some-there (first-finite n (sym (ap (finiteFrom bytes 0) count) ∙ e)) in
         let all : numbersFrom mostDatasets dataset 0 ≡ some (numbersAt 4 bytes 0 (f .datasets)) = floats mostDatasets 0 (f .datasets) few (omega arith) ∙ ap (λ (b : Bool). cond b (some (numbersAt 4 bytes 0 (f .datasets))) none) e in
         λ i. withNumbers (first i) (all i)
 

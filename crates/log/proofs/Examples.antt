@@ -12,9 +12,9 @@ use Rattle.rules.specs.Learn.{learn}
 use Rattle.rules.specs.Table.{apply}
 use Rattle.rules.specs.WellFormed.{wellFormed}
 use Rattle.rules.specs.Cells.{recordCells, cellsOf, recordAt, tableAt, sound, emptyCells}
-use Rattle.rules.specs.Offer.{judgeEntry, datasetEntry, offerByCells, cellsAfter, datasetByCells}
+use Rattle.rules.specs.Offer.{judgeEntry, datasetMessage, offerByCells, cellsAfter, datasetByCells}
 use Rattle.log.specs.Decimal.{decimal}
-use Rattle.log.specs.Record.{messageIn, malformed}
+use Rattle.log.specs.Record.{messageIn, experimentIn, malformed}
 use Rattle.log.specs.Line.{valueLine, recordLine, cellsAfterRecord}
 use Rattle.log.specs.Output.{allLines, totalText, output}
 use Rattle.log.specs.Examples.{ValuesLine, SixRecords, OtherRecords, EmptyInput}
@@ -23,11 +23,11 @@ pub values-line : ValuesLine
 values-line = refl
 
 pub six-records : SixRecords
-unfolding decode decodeWay decodeType decodeForm layout littleEndian types hubAttachedIo portModeInformation effectOf valueLookup judge datasetOf datasetAnswer learn apply wellFormed recordCells cellsOf recordAt tableAt sound emptyCells judgeEntry datasetEntry offerByCells cellsAfter datasetByCells decimal messageIn malformed valueLine recordLine cellsAfterRecord allLines totalText output
+unfolding decode decodeWay decodeType decodeForm layout littleEndian types hubAttachedIo portModeInformation effectOf valueLookup judge datasetOf datasetAnswer learn apply wellFormed recordCells cellsOf recordAt tableAt sound emptyCells judgeEntry datasetMessage offerByCells cellsAfter datasetByCells decimal messageIn experimentIn malformed valueLine recordLine cellsAfterRecord allLines totalText output
 six-records = refl
 
 pub other-records : OtherRecords
-unfolding decode decodeWay decodeType decodeForm layout littleEndian types hubAttachedIo portModeInformation effectOf valueLookup judge datasetOf datasetAnswer learn apply wellFormed recordCells cellsOf recordAt tableAt sound emptyCells judgeEntry datasetEntry offerByCells cellsAfter datasetByCells decimal messageIn malformed valueLine recordLine cellsAfterRecord allLines totalText output
+unfolding decode decodeWay decodeType decodeForm layout littleEndian types hubAttachedIo portModeInformation effectOf valueLookup judge datasetOf datasetAnswer learn apply wellFormed recordCells cellsOf recordAt tableAt sound emptyCells judgeEntry datasetMessage offerByCells cellsAfter datasetByCells decimal messageIn experimentIn malformed valueLine recordLine cellsAfterRecord allLines totalText output
 other-records = refl
 
 pub empty-input : EmptyInput

@@ -16,7 +16,7 @@ use Rattle.protocol.specs.declared.Way.the-variants.{Down, Up}
 use Rattle.protocol.specs.Decode.{longestMessage}
 use Rattle.log.specs.Record.{front, recordSize, messageSize, messageIn, malformed, allZero, wayOf}
 
--- ---- zeros
+-- ---- spare
 
 -- an or of two is 0 where both are
 or-zero : (a b : ℕ) → eqb (bitOr a b) 0 ≡ (eqb a 0 && eqb b 0)
@@ -98,31 +98,31 @@ module _ (part : ℕ) (s : List ℕ) where
   abbrev directed : Bool
   directed = leb (getD s 4 0) 1
 
-  abbrev zeros : Bool
-  zeros = allZero (take 3 (drop 5 s))
+  abbrev spare : Bool
+  spare = eqb (getD s 5 0) 0
 
   abbrev ended : Bool
   ended = allZero (drop (messageSize part s) (drop front s))
 
   pub wrong-size : (length s ≡ recordSize part → ⊥) → true ≡ malformed part s
   unfolding malformed
-  wrong-size h = sym (ap (λ (t : Bool). failing t directed zeros ended) (ne-eqb (length s) (recordSize part) h))
+  wrong-size h = sym (ap (λ (t : Bool). failing t directed spare ended) (ne-eqb (length s) (recordSize part) h))
 
-  right-size : length s ≡ recordSize part → malformed part s ≡ failing true directed zeros ended
+  right-size : length s ≡ recordSize part → malformed part s ≡ failing true directed spare ended
   unfolding malformed
-  right-size h = ap (λ (t : Bool). failing t directed zeros ended) (eq-eqb (length s) (recordSize part) h)
+  right-size h = ap (λ (t : Bool). failing t directed spare ended) (eq-eqb (length s) (recordSize part) h)
 
   pub wrong-way : length s ≡ recordSize part → 1 < getD s 4 0 → true ≡ malformed part s
-  wrong-way h w = sym (right-size h ∙ ap (λ (t : Bool). failing true t zeros ended) (lt-leb (getD s 4 0) 1 w))
+  wrong-way h w = sym (right-size h ∙ ap (λ (t : Bool). failing true t spare ended) (lt-leb (getD s 4 0) 1 w))
 
-  right-way : length s ≡ recordSize part → getD s 4 0 ≤ 1 → malformed part s ≡ failing true true zeros ended
-  right-way h w = right-size h ∙ ap (λ (t : Bool). failing true t zeros ended) (le-leb (getD s 4 0) 1 w)
+  right-way : length s ≡ recordSize part → getD s 4 0 ≤ 1 → malformed part s ≡ failing true true spare ended
+  right-way h w = right-size h ∙ ap (λ (t : Bool). failing true t spare ended) (le-leb (getD s 4 0) 1 w)
 
-  pub wrong-zeros : length s ≡ recordSize part → getD s 4 0 ≤ 1 → zeros ≡ false → true ≡ malformed part s
-  wrong-zeros h w z = sym (right-way h w ∙ ap (λ (t : Bool). failing true true t ended) z)
+  pub wrong-zero : length s ≡ recordSize part → getD s 4 0 ≤ 1 → (getD s 5 0 ≡ 0 → ⊥) → true ≡ malformed part s
+  wrong-zero h w z = sym (right-way h w ∙ ap (λ (t : Bool). failing true true t ended) (ne-eqb (getD s 5 0) 0 z))
 
-  pub by-end : (n : ℕ) → length s ≡ recordSize part → getD s 4 0 ≤ 1 → zeros ≡ true → n ≡ messageSize part s → not (allZero (take (recordSize part - (front + n)) (drop (front + n) s))) ≡ malformed part s
+  pub by-end : (n : ℕ) → length s ≡ recordSize part → getD s 4 0 ≤ 1 → getD s 5 0 ≡ 0 → n ≡ messageSize part s → not (allZero (take (recordSize part - (front + n)) (drop (front + n) s))) ≡ malformed part s
   by-end n h w z e =
       let short : length (drop (front + n) s) ≤ recordSize part - (front + n) = rw (length-drop (front + n) s) (omega arith) in
       ap (λ (l : List ℕ). not (allZero l)) (take-all (recordSize part - (front + n)) (drop (front + n) s) short ∙ sym (drop-drop n front s))
-      ∙ ap (λ (k : ℕ). not (allZero (drop k (drop front s)))) e ∙ sym (right-way h w ∙ ap (λ (t : Bool). failing true true t ended) z)
+      ∙ ap (λ (k : ℕ). not (allZero (drop k (drop front s)))) e ∙ sym (right-way h w ∙ ap (λ (t : Bool). failing true true t ended) (eq-eqb (getD s 5 0) 0 z))

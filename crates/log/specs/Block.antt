@@ -7,9 +7,9 @@ use Rattle.log.specs.Record.{recordSize}
 use Rattle.log.specs.Cutting.{Run, worked, printed}
 use Rattle.log.specs.Ending.{mostCount}
 
--- no line is longer: at most 21 numbers of 20 digits, each with a space or the line's end
+-- no line is longer: at most 22 numbers of 20 digits, each with a space or the line's end
 abbrev pub lineRoom : ℕ
-lineRoom = 448
+lineRoom = 462
 
 -- a whole record is there, the output has room for any line, and the totals can count one more
 abbrev pub goesOn : ℕ → Run → ℕ → Bool

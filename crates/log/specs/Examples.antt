@@ -1,4 +1,5 @@
--- Document 01's six records print exactly its seven lines; and a log with a malformed record and a short last piece.
+-- Document 01's six records print exactly its seven lines; and a log with two experiments, a malformed record and a short
+-- last piece.
 use Prim.Native.Nat.{ℕ, _-_}
 use mathlib.Core.Path.{_≡_}
 use mathlib.Core.List.{List, [], _∷_, _++_}
@@ -6,12 +7,12 @@ use lib.ListN.{length, replicate}
 use Rattle.log.specs.Line.{values, numbersOf}
 use Rattle.log.specs.Output.{output}
 
--- a record at time 0, with its direction and the byte after it, which is 0 in a good record
-abbrev recordWith : ℕ → ℕ → List ℕ → List ℕ
-recordWith way next message = (0 ∷ 0 ∷ 0 ∷ 0 ∷ way ∷ next ∷ 0 ∷ 0 ∷ message) ++ replicate (128 - length message) 0
+-- a record at time 0, with its direction, the byte after it, which is 0 in a good record, and the two of its experiment number
+abbrev recordWith : ℕ → ℕ → ℕ → ℕ → List ℕ → List ℕ
+recordWith way next low high message = (0 ∷ 0 ∷ 0 ∷ 0 ∷ way ∷ next ∷ low ∷ high ∷ message) ++ replicate (128 - length message) 0
 
 abbrev recordOf : ℕ → List ℕ → List ℕ
-recordOf way message = recordWith way 0 message
+recordOf way message = recordWith way 0 0 0 message
 
 abbrev sixRecords : List ℕ
 sixRecords =
@@ -22,7 +23,7 @@ sixRecords =
     ++ recordOf 1 (0x0A ∷ 0x00 ∷ 0x47 ∷ 0x00 ∷ 0x02 ∷ 0x01 ∷ 0x00 ∷ 0x00 ∷ 0x00 ∷ 0x01 ∷ [])
     ++ recordOf 1 (0x08 ∷ 0x00 ∷ 0x45 ∷ 0x00 ∷ 0x05 ∷ 0x00 ∷ 0x00 ∷ 0x00 ∷ [])
 
--- "1 0", "2 0", "3 14", "4 0", "5 0", "6 0 0 2 2 5", "total 6 refused 1"
+-- "1 0", "2 0", "3 14", "4 0", "5 0", "6 0 0 2 2 0 5", "total 6 refused 1"
 abbrev sevenLines : List ℕ
 sevenLines =
     49 ∷ 32 ∷ 48 ∷ 10
@@ -30,42 +31,46 @@ sevenLines =
     ∷ 51 ∷ 32 ∷ 49 ∷ 52 ∷ 10
     ∷ 52 ∷ 32 ∷ 48 ∷ 10
     ∷ 53 ∷ 32 ∷ 48 ∷ 10
-    ∷ 54 ∷ 32 ∷ 48 ∷ 32 ∷ 48 ∷ 32 ∷ 50 ∷ 32 ∷ 50 ∷ 32 ∷ 53 ∷ 10
+    ∷ 54 ∷ 32 ∷ 48 ∷ 32 ∷ 48 ∷ 32 ∷ 50 ∷ 32 ∷ 50 ∷ 32 ∷ 48 ∷ 32 ∷ 53 ∷ 10
     ∷ 116 ∷ 111 ∷ 116 ∷ 97 ∷ 108 ∷ 32 ∷ 54 ∷ 32 ∷ 114 ∷ 101 ∷ 102 ∷ 117 ∷ 115 ∷ 101 ∷ 100 ∷ 32 ∷ 49 ∷ 10 ∷ []
 
 abbrev pub SixRecords : Type 0
 SixRecords = output 128 sixRecords ≡ sevenLines
 
--- a hub that still reports in mode 2 after mode 3 was asked for; a malformed record, which is not followed: its 47 would
--- make mode 0 the port's; two datasets; and a last piece of three bytes
+-- mode 2 is asked for in experiment 258 and answered, and a value comes; then mode 3 in experiment 259, and the hub still
+-- reports in mode 2. A malformed record is not followed: its 47 would make mode 0 the port's. A last piece of three bytes.
 abbrev otherRecords : List ℕ
 otherRecords =
     recordOf 1 (0x0F ∷ 0x00 ∷ 0x04 ∷ 0x07 ∷ 0x01 ∷ 0x26 ∷ 0x00 ∷ 0x00 ∷ 0x00 ∷ 0x00 ∷ 0x10 ∷ 0x00 ∷ 0x00 ∷ 0x00 ∷ 0x10 ∷ [])
     ++ recordOf 1 (0x0A ∷ 0x00 ∷ 0x44 ∷ 0x07 ∷ 0x02 ∷ 0x80 ∷ 0x02 ∷ 0x01 ∷ 0x04 ∷ 0x00 ∷ [])
+    ++ recordWith 0 0 2 1 (0x0A ∷ 0x00 ∷ 0x41 ∷ 0x07 ∷ 0x02 ∷ 0x01 ∷ 0x00 ∷ 0x00 ∷ 0x00 ∷ 0x01 ∷ [])
     ++ recordOf 1 (0x0A ∷ 0x00 ∷ 0x47 ∷ 0x07 ∷ 0x02 ∷ 0x01 ∷ 0x00 ∷ 0x00 ∷ 0x00 ∷ 0x01 ∷ [])
-    ++ recordOf 0 (0x0A ∷ 0x00 ∷ 0x41 ∷ 0x07 ∷ 0x03 ∷ 0x01 ∷ 0x00 ∷ 0x00 ∷ 0x00 ∷ 0x01 ∷ [])
-    ++ recordWith 1 9 (0x0A ∷ 0x00 ∷ 0x47 ∷ 0x07 ∷ 0x00 ∷ 0x01 ∷ 0x00 ∷ 0x00 ∷ 0x00 ∷ 0x01 ∷ [])
     ++ recordOf 1 (0x08 ∷ 0x00 ∷ 0x45 ∷ 0x07 ∷ 0x05 ∷ 0x00 ∷ 0x02 ∷ 0x01 ∷ [])
+    ++ recordWith 0 0 3 1 (0x0A ∷ 0x00 ∷ 0x41 ∷ 0x07 ∷ 0x03 ∷ 0x01 ∷ 0x00 ∷ 0x00 ∷ 0x00 ∷ 0x01 ∷ [])
+    ++ recordWith 1 9 0 0 (0x0A ∷ 0x00 ∷ 0x47 ∷ 0x07 ∷ 0x00 ∷ 0x01 ∷ 0x00 ∷ 0x00 ∷ 0x00 ∷ 0x01 ∷ [])
+    ++ recordWith 1 0 3 1 (0x08 ∷ 0x00 ∷ 0x45 ∷ 0x07 ∷ 0x05 ∷ 0x00 ∷ 0x02 ∷ 0x01 ∷ [])
     ++ (0x00 ∷ 0x00 ∷ 0x00 ∷ [])
 
--- "1 0", "2 0", "3 0", "4 0", "5 19", "6 0 7 2 1 5 258", "7 19", "total 7 refused 2"
+-- "1 0", "2 0", "3 0", "4 0", "5 0 7 2 2 258 5 258", "6 0", "7 19", "8 0 7 2 1 0 5 258", "9 19", "total 9 refused 2"
 abbrev otherLines : List ℕ
 otherLines =
     49 ∷ 32 ∷ 48 ∷ 10
     ∷ 50 ∷ 32 ∷ 48 ∷ 10
     ∷ 51 ∷ 32 ∷ 48 ∷ 10
     ∷ 52 ∷ 32 ∷ 48 ∷ 10
-    ∷ 53 ∷ 32 ∷ 49 ∷ 57 ∷ 10
-    ∷ 54 ∷ 32 ∷ 48 ∷ 32 ∷ 55 ∷ 32 ∷ 50 ∷ 32 ∷ 49 ∷ 32 ∷ 53 ∷ 32 ∷ 50 ∷ 53 ∷ 56 ∷ 10
+    ∷ 53 ∷ 32 ∷ 48 ∷ 32 ∷ 55 ∷ 32 ∷ 50 ∷ 32 ∷ 50 ∷ 32 ∷ 50 ∷ 53 ∷ 56 ∷ 32 ∷ 53 ∷ 32 ∷ 50 ∷ 53 ∷ 56 ∷ 10
+    ∷ 54 ∷ 32 ∷ 48 ∷ 10
     ∷ 55 ∷ 32 ∷ 49 ∷ 57 ∷ 10
-    ∷ 116 ∷ 111 ∷ 116 ∷ 97 ∷ 108 ∷ 32 ∷ 55 ∷ 32 ∷ 114 ∷ 101 ∷ 102 ∷ 117 ∷ 115 ∷ 101 ∷ 100 ∷ 32 ∷ 50 ∷ 10 ∷ []
+    ∷ 56 ∷ 32 ∷ 48 ∷ 32 ∷ 55 ∷ 32 ∷ 50 ∷ 32 ∷ 49 ∷ 32 ∷ 48 ∷ 32 ∷ 53 ∷ 32 ∷ 50 ∷ 53 ∷ 56 ∷ 10
+    ∷ 57 ∷ 32 ∷ 49 ∷ 57 ∷ 10
+    ∷ 116 ∷ 111 ∷ 116 ∷ 97 ∷ 108 ∷ 32 ∷ 57 ∷ 32 ∷ 114 ∷ 101 ∷ 102 ∷ 117 ∷ 115 ∷ 101 ∷ 100 ∷ 32 ∷ 50 ∷ 10 ∷ []
 
 abbrev pub OtherRecords : Type 0
 OtherRecords = output 128 otherRecords ≡ otherLines
 
--- port 7 in mode 2 and state 1, with two datasets: "0 7 2 1 5 258"
+-- port 7 in mode 2 and state 2, experiment 9, with two datasets: "0 7 2 2 9 5 258"
 abbrev pub ValuesLine : Type 0
-ValuesLine = numbersOf (values 7 2 1 (5 ∷ 258 ∷ [])) ≡ 0 ∷ 7 ∷ 2 ∷ 1 ∷ 5 ∷ 258 ∷ []
+ValuesLine = numbersOf (values 7 2 2 9 (5 ∷ 258 ∷ [])) ≡ 0 ∷ 7 ∷ 2 ∷ 2 ∷ 9 ∷ 5 ∷ 258 ∷ []
 
 -- "total 0 refused 0"
 abbrev pub EmptyInput : Type 0

@@ -17,8 +17,8 @@ use Rattle.log.specs.Record.{entryOf, malformed}
 pub data Line : Type 0 where
   refused : ℕ → Line
   accepted : Line
-  -- an accepted 45: port, mode, state, datasets (floats as their 32 bits)
-  values : ℕ → ℕ → ℕ → List ℕ → Line
+  -- an accepted 45: port, mode, state, experiment number, datasets (floats as their 32 bits)
+  values : ℕ → ℕ → ℕ → ℕ → List ℕ → Line
 
 -- ---- the datasets of a value, as they are handed out one after another
 
@@ -45,7 +45,7 @@ numbersFrom (suc most) dataset n = followedBy (dataset n) (numbersFrom most data
 abbrev pub withNumbers : Answer Dataset → Option (List ℕ) → Line
 withNumbers a none = refused 18
 withNumbers (Answer.refused n place) (some ns) = refused n
-withNumbers (Answer.accepted d) (some ns) = values (d .port) (d .mode) (d .state) ns
+withNumbers (Answer.accepted d) (some ns) = values (d .port) (d .mode) (d .state) (d .experiment) ns
 
 unfoldable pub valueLine : (ℕ → Answer Dataset) → Line
 valueLine dataset = withNumbers (dataset 0) (numbersFrom mostDatasets dataset 0)
@@ -68,7 +68,7 @@ answerLine dataset (Answer.refused n place) = refused n
 answerLine dataset (Answer.accepted e) = acceptedLine dataset e
 
 abbrev pub entryLine : List ℕ → Entry → Line
-entryLine cells e = answerLine (datasetByCells cells e) (offerByCells cells e)
+entryLine cells e = answerLine (datasetByCells cells (e .way) (e .bytes)) (offerByCells cells e)
 
 -- 19 comes first, and such a record is not offered to the table
 unfoldable pub recordLine : ℕ → List ℕ → List ℕ → Line
@@ -82,9 +82,9 @@ cellsAfterRecord part cells s = cond (malformed part s) cells (cellsAfter cells 
 abbrev pub refusalOf : Line → ℕ
 refusalOf (refused n) = n
 refusalOf accepted = 0
-refusalOf (values port mode state ns) = 0
+refusalOf (values port mode state experiment ns) = 0
 
 abbrev pub numbersOf : Line → List ℕ
 numbersOf (refused n) = n ∷ []
 numbersOf accepted = 0 ∷ []
-numbersOf (values port mode state ns) = 0 ∷ port ∷ mode ∷ state ∷ ns
+numbersOf (values port mode state experiment ns) = 0 ∷ port ∷ mode ∷ state ∷ experiment ∷ ns

@@ -1,10 +1,11 @@
--- A record of a log: time in ms u32, direction byte (0 down, 1 up), three zeros, then the message part. The size of the
--- message part is an argument; it is 128 in the base.
+-- A record of a log: time in ms u32, direction byte (0 down, 1 up), a zero, the experiment number u16, then the message part.
+-- The size of the message part is an argument; it is 128 in the base.
 use Prim.Native.Nat.{ℕ, _+_}
 use mathlib.Core.Bool.{Bool, true, cond, not, _&&_, _||_}
 use mathlib.Core.List.{List, [], _∷_}
 use lib.Dec.{eqb, leb}
 use lib.ListN.{length, getD, take, drop}
+use Rattle.protocol.specs.Number.{littleEndian}
 use Rattle.protocol.specs.Decode.{longestMessage}
 use Rattle.protocol.specs.declared.Way.{Way}
 use Rattle.protocol.specs.declared.Way.the-variants.{Down, Up}
@@ -27,15 +28,19 @@ messageIn part s = take (messageSize part s) (drop front s)
 abbrev pub wayOf : ℕ → Way
 wayOf n = cond (eqb n 0) Down Up
 
+-- bytes 6 and 7, the least significant first
+unfoldable pub experimentIn : List ℕ → ℕ
+experimentIn s = littleEndian s 6 2
+
 abbrev pub entryOf : ℕ → List ℕ → Entry
-entryOf part s = record { way = wayOf (getD s 4 0); bytes = messageIn part s }
+entryOf part s = record { way = wayOf (getD s 4 0); bytes = messageIn part s; experiment = experimentIn s }
 
 abbrev pub allZero : List ℕ → Bool
 allZero [] = true
 allZero (b ∷ bs) = eqb b 0 && allZero bs
 
--- 19: another size, direction over 1, one of the three zeros not 0, or a nonzero byte after the message
+-- 19: another size, direction over 1, byte 5 not 0, or a nonzero byte after the message
 unfoldable pub malformed : ℕ → List ℕ → Bool
 malformed part s =
-    not (eqb (length s) (recordSize part)) || not (leb (getD s 4 0) 1) || not (allZero (take 3 (drop 5 s)))
+    not (eqb (length s) (recordSize part)) || not (leb (getD s 4 0) 1) || not (eqb (getD s 5 0) 0)
     || not (allZero (drop (messageSize part s) (drop front s)))
