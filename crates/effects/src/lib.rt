@@ -20,9 +20,9 @@ fn action_effect(action: u8) -> Effect
     Effect::Empty
 }
 
-// What a message is to the table.
-pub fn effect_of(m: Message) -> Effect
-    ensures { λ r. ⌜ r ≡ effectOf m ⌝ }
+// What a message with its experiment number is to the table.
+pub fn effect_of(m: Message, experiment: u16) -> Effect
+    ensures { λ r. ⌜ r ≡ effectOf experiment m ⌝ }
 {
     match m {
         Message::HubAction { action } => action_effect(action),
@@ -72,6 +72,7 @@ pub fn effect_of(m: Message) -> Effect
                     delta,
                     notify,
                 },
+                experiment,
             },
         },
         Message::PortModes {

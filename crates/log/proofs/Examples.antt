@@ -2,7 +2,7 @@
 use mathlib.Core.Path.{refl}
 use Rattle.protocol.specs.Decode.{decode, decodeWay, decodeType, decodeForm}
 use Rattle.protocol.specs.Form.{layout}
-use Rattle.protocol.specs.Number.{littleEndian}
+use Rattle.protocol.specs.Number.{littleEndian, bigEndian}
 use Rattle.protocol.specs.Types.{types, hubAttachedIo, portModeInformation}
 use Rattle.rules.specs.Effect.{effectOf}
 use Rattle.rules.specs.ValueLookup.{valueLookup}
@@ -17,7 +17,11 @@ use Rattle.log.specs.Decimal.{decimal}
 use Rattle.log.specs.Record.{messageIn, experimentIn, malformed}
 use Rattle.log.specs.Line.{valueLine, recordLine, cellsAfterRecord}
 use Rattle.log.specs.Output.{allLines, totalText, output}
-use Rattle.log.specs.Examples.{ValuesLine, SixRecords, OtherRecords, EmptyInput}
+use Rattle.log.specs.Examples.{RecordExperiment, ValuesLine, SixRecords, OtherRecords, EmptyInput}
+
+pub record-experiment : RecordExperiment
+unfolding littleEndian bigEndian experimentIn
+record-experiment = refl
 
 pub values-line : ValuesLine
 values-line = refl

@@ -9,8 +9,9 @@ use Rattle.log.specs.Line.{Line}
 use Rattle.log.specs.Output.{allLines, numbered, refusedAmong, totalText, output}
 use Rattle.log.specs.Cutting.{start, wholeInput}
 use Rattle.log.specs.Pieces.{joined}
-use Rattle.log.specs.Laws.{AnyCutting, BlockAfterBlock, PieceByPiece}
+use Rattle.log.specs.Laws.{AnyCutting, BlockAfterBlock, PieceByPiece, NumberlessLog}
 use Rattle.log.proofs.Cutting.{outputFrom, any-cutting-from}
+use Rattle.log.proofs.Numberless.{numberless}
 use Rattle.log.proofs.Pieces.{blocks-run, blocks-text, pieces-from}
 
 -- the output of a start
@@ -29,3 +30,6 @@ block-after-block part n m r = (blocks-run part n m r, blocks-text part n m r)
 
 pub piece-by-piece : PieceByPiece
 piece-by-piece part pieces = pieces-from part start pieces (omega arith) ∙ from-start part (joined pieces)
+
+pub numberless-log : NumberlessLog
+numberless-log = numberless

@@ -6,6 +6,7 @@ pub mod Endings
 pub mod Examples
 pub mod Laws
 pub mod Lines
+pub mod Numberless
 pub mod OneMore
 pub mod OverwriteIfRoom
 pub mod Pieces

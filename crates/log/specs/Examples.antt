@@ -4,6 +4,7 @@ use Prim.Native.Nat.{ℕ, _-_}
 use mathlib.Core.Path.{_≡_}
 use mathlib.Core.List.{List, [], _∷_, _++_}
 use lib.ListN.{length, replicate}
+use Rattle.log.specs.Record.{experimentIn}
 use Rattle.log.specs.Line.{values, numbersOf}
 use Rattle.log.specs.Output.{output}
 
@@ -13,6 +14,10 @@ recordWith way next low high message = (0 ∷ 0 ∷ 0 ∷ 0 ∷ way ∷ next ∷
 
 abbrev recordOf : ℕ → List ℕ → List ℕ
 recordOf way message = recordWith way 0 0 0 message
+
+-- bytes 2 and 1 are experiment number 258
+abbrev pub RecordExperiment : Type 0
+RecordExperiment = experimentIn (recordWith 0 0 2 1 []) ≡ 258
 
 abbrev sixRecords : List ℕ
 sixRecords =
@@ -68,9 +73,9 @@ otherLines =
 abbrev pub OtherRecords : Type 0
 OtherRecords = output 128 otherRecords ≡ otherLines
 
--- port 7 in mode 2 and state 2, experiment 9, with two datasets: "0 7 2 2 9 5 258"
+-- port 7 in mode 1 and state 2, experiment 9, with two datasets: "0 7 1 2 9 5 258"
 abbrev pub ValuesLine : Type 0
-ValuesLine = numbersOf (values 7 2 2 9 (5 ∷ 258 ∷ [])) ≡ 0 ∷ 7 ∷ 2 ∷ 2 ∷ 9 ∷ 5 ∷ 258 ∷ []
+ValuesLine = numbersOf (values 7 1 2 9 (5 ∷ 258 ∷ [])) ≡ 0 ∷ 7 ∷ 1 ∷ 2 ∷ 9 ∷ 5 ∷ 258 ∷ []
 
 -- "total 0 refused 0"
 abbrev pub EmptyInput : Type 0

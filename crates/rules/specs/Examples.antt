@@ -12,7 +12,8 @@ use Rattle.protocol.specs.Form.{upFrom}
 use Rattle.protocol.specs.declared.Way.the-variants.{Down, Up}
 use Rattle.rules.specs.Answer.{Answer, refused, accepted, outcome}
 use Rattle.rules.specs.Effect.{setup, Formatted}
-use Rattle.rules.specs.Facts.{Setup, Format, Wiring, Unjoined, Joined, Virtual, Facts}
+use Rattle.rules.specs.Facts.{Setup, Format, Settings, Wiring, Unjoined, Joined, Virtual, Facts}
+use Rattle.rules.specs.ValueLookup.{valueExperiment}
 use Rattle.rules.specs.Judge.{widthOf, judgeDisconnect}
 use Rattle.rules.specs.Learn.{bareSettings, learn}
 use Rattle.rules.specs.Offer.{Entry, offerByPast, datasetByPast, viewOfPast}
@@ -341,6 +342,13 @@ presence =
 abbrev Widths : Type 0
 Widths = map widthOf (0 ∷ 1 ∷ 2 ∷ 3 ∷ []) ≡ 1 ∷ 2 ∷ 4 ∷ 4 ∷ []
 
+-- a value's experiment number at a port whose number is 7, by the state
+abbrev inState : ℕ → Settings
+inState state = record { formats = λ mode. none; answered = none; asked = none; state = state; experiment = 7 }
+
+abbrev ValueExperiments : Type 0
+ValueExperiments = map (λ state. valueExperiment (inState state)) (0 ∷ 1 ∷ 2 ∷ 3 ∷ []) ≡ 0 ∷ 0 ∷ 7 ∷ 0 ∷ []
+
 -- a disconnection of an absent port, an unjoined one, a joined one and a virtual one
 abbrev Disconnections : Type 0
 Disconnections = map judgeDisconnect (none ∷ some (bare 0x26 Unjoined) ∷ some (bare 0x26 (Joined 16)) ∷ some (bare 0x26 (Virtual 0 1)) ∷ []) ≡ 10 ∷ 12 ∷ 12 ∷ 0 ∷ []
@@ -353,6 +361,7 @@ Hold rows = map (λ e. e .said) rows ≡ map (λ e. e .wanted) rows
 abbrev pub ExamplesHold : Type 0
 ExamplesHold =
     Widths
+    × ValueExperiments
     × Disconnections
     × Hold theLog
     × Hold states

@@ -16,41 +16,41 @@ use Rattle.effects.proofs.effect_of.Tie as tie
 abbrev others : List ℕ
 others = 0 ∷ 1 ∷ 2 ∷ 3 ∷ 4 ∷ 5 ∷ 6 ∷ 8 ∷ 9 ∷ 13 ∷ 14 ∷ 15 ∷ 16 ∷ 17 ∷ []
 
-nothing-told : (m : Message) → OneOf others (tagOf the-type m) → effectOf m ≡ Nothing
+nothing-told : (experiment : ℕ) (m : Message) → OneOf others (tagOf the-type m) → effectOf experiment m ≡ Nothing
 unfolding effectOf
-nothing-told (Message'.PropertyCommand p o) t = refl
-nothing-told (Message'.PropertyText p o) t = refl
-nothing-told (Message'.PropertyByte p o v) t = refl
-nothing-told (Message'.PropertyRssi o v) t = refl
-nothing-told (Message'.PropertyVersion p o v) t = refl
-nothing-told (Message'.PropertyProtocol o v) t = refl
-nothing-told (Message'.PropertyAddress p o v) t = refl
-nothing-told (Message'.HubAction a) t = absurd (miss others 7 tt t)
-nothing-told (Message'.AlertCommand a o) t = refl
-nothing-told (Message'.AlertUpdate a v) t = refl
-nothing-told (Message'.Detached p) t = absurd (miss others 10 tt t)
-nothing-told (Message'.Attached p d h s) t = absurd (miss others 11 tt t)
-nothing-told (Message'.AttachedVirtual p d a b) t = absurd (miss others 12 tt t)
-nothing-told (Message'.GenericError c e) t = refl
-nothing-told Message'.GoIntoBootMode t = refl
-nothing-told Message'.LockMemory t = refl
-nothing-told Message'.LockStatusRequest t = refl
-nothing-told (Message'.LockStatus v) t = refl
-nothing-told (Message'.PortInformationRequest p i) t = absurd (miss others 18 tt t)
-nothing-told (Message'.ModeInformationRequest p m i) t = absurd (miss others 19 tt t)
-nothing-told (Message'.InputFormatSetup p m d n) t = absurd (miss others 20 tt t)
-nothing-told (Message'.PortModes p c n i o) t = absurd (miss others 21 tt t)
-nothing-told (Message'.PortCombinations p c) t = absurd (miss others 22 tt t)
-nothing-told (Message'.ModeText p m i) t = absurd (miss others 23 tt t)
-nothing-told (Message'.ModeRange p m i l h) t = absurd (miss others 24 tt t)
-nothing-told (Message'.ModeMapping p m v) t = absurd (miss others 25 tt t)
-nothing-told (Message'.ModeBias p m v) t = absurd (miss others 26 tt t)
-nothing-told (Message'.ModeCapabilities p m v) t = absurd (miss others 27 tt t)
-nothing-told (Message'.ValueFormat p m n k f d) t = absurd (miss others 28 tt t)
-nothing-told (Message'.PortValue p) t = absurd (miss others 29 tt t)
-nothing-told (Message'.InputFormat p m d n) t = absurd (miss others 30 tt t)
-nothing-told (Message'.VirtualDisconnect p) t = absurd (miss others 31 tt t)
-nothing-told (Message'.VirtualConnect a b) t = absurd (miss others 32 tt t)
+nothing-told experiment (Message'.PropertyCommand p o) t = refl
+nothing-told experiment (Message'.PropertyText p o) t = refl
+nothing-told experiment (Message'.PropertyByte p o v) t = refl
+nothing-told experiment (Message'.PropertyRssi o v) t = refl
+nothing-told experiment (Message'.PropertyVersion p o v) t = refl
+nothing-told experiment (Message'.PropertyProtocol o v) t = refl
+nothing-told experiment (Message'.PropertyAddress p o v) t = refl
+nothing-told experiment (Message'.HubAction a) t = absurd (miss others 7 tt t)
+nothing-told experiment (Message'.AlertCommand a o) t = refl
+nothing-told experiment (Message'.AlertUpdate a v) t = refl
+nothing-told experiment (Message'.Detached p) t = absurd (miss others 10 tt t)
+nothing-told experiment (Message'.Attached p d h s) t = absurd (miss others 11 tt t)
+nothing-told experiment (Message'.AttachedVirtual p d a b) t = absurd (miss others 12 tt t)
+nothing-told experiment (Message'.GenericError c e) t = refl
+nothing-told experiment Message'.GoIntoBootMode t = refl
+nothing-told experiment Message'.LockMemory t = refl
+nothing-told experiment Message'.LockStatusRequest t = refl
+nothing-told experiment (Message'.LockStatus v) t = refl
+nothing-told experiment (Message'.PortInformationRequest p i) t = absurd (miss others 18 tt t)
+nothing-told experiment (Message'.ModeInformationRequest p m i) t = absurd (miss others 19 tt t)
+nothing-told experiment (Message'.InputFormatSetup p m d n) t = absurd (miss others 20 tt t)
+nothing-told experiment (Message'.PortModes p c n i o) t = absurd (miss others 21 tt t)
+nothing-told experiment (Message'.PortCombinations p c) t = absurd (miss others 22 tt t)
+nothing-told experiment (Message'.ModeText p m i) t = absurd (miss others 23 tt t)
+nothing-told experiment (Message'.ModeRange p m i l h) t = absurd (miss others 24 tt t)
+nothing-told experiment (Message'.ModeMapping p m v) t = absurd (miss others 25 tt t)
+nothing-told experiment (Message'.ModeBias p m v) t = absurd (miss others 26 tt t)
+nothing-told experiment (Message'.ModeCapabilities p m v) t = absurd (miss others 27 tt t)
+nothing-told experiment (Message'.ValueFormat p m n k f d) t = absurd (miss others 28 tt t)
+nothing-told experiment (Message'.PortValue p) t = absurd (miss others 29 tt t)
+nothing-told experiment (Message'.InputFormat p m d n) t = absurd (miss others 30 tt t)
+nothing-told experiment (Message'.VirtualDisconnect p) t = absurd (miss others 31 tt t)
+nothing-told experiment (Message'.VirtualConnect a b) t = absurd (miss others 32 tt t)
 
 enum-known-m : tie.Need-enum-known-m
 enum-known-m c = search needs
@@ -114,82 +114,82 @@ enum-known-m-19 c = search needs
 
 returns : tie.Need-returns
 unfolding effectOf
-returns c = c .action-effect .ensures ∙ sym (ap effectOf (c .before .before .m .given .1))
+returns c = c .action-effect .ensures ∙ sym (ap (effectOf (c .before .before .before .before .args .experiment)) (c .before .before .m .given .1))
 
 returns-2 : tie.Need-returns-2
 unfolding effectOf
-returns-2 c = sym (ap effectOf (c .before .m2 .given .1))
+returns-2 c = sym (ap (effectOf (c .before .before .before .args .experiment)) (c .before .m2 .given .1))
 
 returns-3 : tie.Need-returns-3
 unfolding effectOf
-returns-3 c = sym (ap effectOf (c .before .m3 .given .1))
+returns-3 c = sym (ap (effectOf (c .before .before .before .args .experiment)) (c .before .m3 .given .1))
 
 returns-4 : tie.Need-returns-4
 unfolding effectOf
-returns-4 c = sym (ap effectOf (c .before .m4 .given .1))
+returns-4 c = sym (ap (effectOf (c .before .before .before .args .experiment)) (c .before .m4 .given .1))
 
 returns-5 : tie.Need-returns-5
 unfolding effectOf
-returns-5 c = sym (ap effectOf (c .before .m5 .given .1))
+returns-5 c = sym (ap (effectOf (c .before .before .before .args .experiment)) (c .before .m5 .given .1))
 
 returns-6 : tie.Need-returns-6
 unfolding effectOf
-returns-6 c = sym (ap effectOf (c .before .m6 .given .1))
+returns-6 c = sym (ap (effectOf (c .before .before .before .args .experiment)) (c .before .m6 .given .1))
 
 returns-7 : tie.Need-returns-7
 unfolding effectOf
-returns-7 c = sym (ap effectOf (c .before .m7 .given .1))
+returns-7 c = sym (ap (effectOf (c .before .before .before .args .experiment)) (c .before .m7 .given .1))
 
 returns-8 : tie.Need-returns-8
 unfolding effectOf
-returns-8 c = sym (ap effectOf (c .before .m8 .given .1))
+returns-8 c = sym (ap (effectOf (c .before .before .before .args .experiment)) (c .before .m8 .given .1))
 
 returns-9 : tie.Need-returns-9
 unfolding effectOf
-returns-9 c = sym (ap effectOf (c .before .m9 .given .1))
+returns-9 c = sym (ap (effectOf (c .before .before .before .args .experiment)) (c .before .m9 .given .1))
 
 returns-10 : tie.Need-returns-10
 unfolding effectOf
-returns-10 c = sym (ap effectOf (c .before .m10 .given .1))
+returns-10 c = sym (ap (effectOf (c .before .before .before .args .experiment)) (c .before .m10 .given .1))
 
 returns-11 : tie.Need-returns-11
 unfolding effectOf
-returns-11 c = sym (ap effectOf (c .before .m11 .given .1))
+returns-11 c = sym (ap (effectOf (c .before .before .before .args .experiment)) (c .before .m11 .given .1))
 
 returns-12 : tie.Need-returns-12
 unfolding effectOf
-returns-12 c = sym (ap effectOf (c .before .m12 .given .1))
+returns-12 c = sym (ap (effectOf (c .before .before .before .args .experiment)) (c .before .m12 .given .1))
 
 returns-13 : tie.Need-returns-13
 unfolding effectOf
-returns-13 c = sym (ap effectOf (c .before .m13 .given .1))
+returns-13 c = sym (ap (effectOf (c .before .before .before .args .experiment)) (c .before .m13 .given .1))
 
 returns-14 : tie.Need-returns-14
 unfolding effectOf
-returns-14 c = sym (ap effectOf (c .before .m14 .given .1))
+returns-14 c = sym (ap (effectOf (c .before .before .before .args .experiment)) (c .before .m14 .given .1))
 
 returns-15 : tie.Need-returns-15
 unfolding effectOf
-returns-15 c = sym (ap effectOf (c .before .m15 .given .1))
+returns-15 c = sym (ap (effectOf (c .before .before .before .args .experiment)) (c .before .m15 .given .1))
 
 returns-16 : tie.Need-returns-16
 unfolding effectOf
-returns-16 c = sym (ap effectOf (c .before .m16 .given .1))
+returns-16 c = sym (ap (effectOf (c .before .before .before .args .experiment)) (c .before .m16 .given .1))
 
 returns-17 : tie.Need-returns-17
 unfolding effectOf
-returns-17 c = sym (ap effectOf (c .before .m17 .given .1))
+returns-17 c = sym (ap (effectOf (c .before .before .before .args .experiment)) (c .before .m17 .given .1))
 
 returns-18 : tie.Need-returns-18
 unfolding effectOf
-returns-18 c = sym (ap effectOf (c .before .m18 .given .1))
+returns-18 c = sym (ap (effectOf (c .before .before .before .args .experiment)) (c .before .m18 .given .1))
 
 returns-19 : tie.Need-returns-19
 unfolding effectOf
-returns-19 c = sym (ap effectOf (c .before .m19 .given .1))
+returns-19 c = sym (ap (effectOf (c .before .before .before .args .experiment)) (c .before .m19 .given .1))
 
 returns-20 : tie.Need-returns-20
-returns-20 c = sym (nothing-told (c .before .args .m) (c .match .keys20))
+returns-20 c = sym (nothing-told (c .before .args .experiment) (c .before .args .m) (c .match .keys20))
 
 pub effect-of-spec : {M : Type 1} → statement M
 effect-of-spec =

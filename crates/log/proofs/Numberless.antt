@@ -1,0 +1,103 @@
+-- A log whose experiment numbers are 0: so are those of its values.
+use Prim.Native.Nat.{ℕ, zero, suc, _*_}
+use mathlib.Core.Path.{_≡_, refl, sym, ap}
+use mathlib.Core.Bool.{Bool, true, false, cond}
+use mathlib.Core.List.{List, [], _∷_, _++_}
+use mathlib.Core.Option.{Option, none, some}
+use lib.Dec.{ltb}
+use lib.ListN.{take, drop}
+use Rattle.protocol.specs.Form.{mostDatasets}
+use Rattle.protocol.specs.Number.{Bytes}
+use Rattle.protocol.proofs.Bytes.{Bytes-take, Bytes-drop}
+use Rattle.rules.specs.Answer as Answer
+use Rattle.rules.specs.Answer.{Answer}
+use Rattle.rules.specs.Cells.{tableAt, sound, emptyCells}
+use Rattle.rules.specs.Dataset.{Dataset}
+use Rattle.rules.specs.Demand3.{EntryFits}
+use Rattle.rules.specs.Laws.{NoNumbers, datasetExperiment}
+use Rattle.rules.specs.Layout.{experimentCount}
+use Rattle.rules.specs.Offer.{Entry, offerByCells, cellsAfter, datasetByCells}
+use Rattle.rules.specs.declared.Effect.{Effect}
+use Rattle.rules.specs.declared.Effect.the-variants as Effect'
+use Rattle.rules.proofs.Experiments.{empty-no-numbers, step-keeps-no-numbers, values-no-numbers}
+use Rattle.rules.proofs.Laws.{empty-sound, step-keeps-sound}
+use Rattle.log.specs.Record.{recordSize, front, messageSize, messageIn, experimentIn, entryOf, malformed}
+use Rattle.log.specs.Line.{Line, refused, numbersFrom, withNumbers, valueLine, acceptedLine, answerLine, entryLine, recordLine, cellsAfterRecord}
+use Rattle.log.specs.Output.{linesOf, records, lastLine, allLines}
+use Rattle.log.specs.Laws.{NumbersZero, lineExperiment, ValuesZero, NumberlessLog}
+
+-- ---- a line
+
+with-zero : (a : Answer Dataset) → datasetExperiment a ≡ 0 → (ns : Option (List ℕ)) → lineExperiment (withNumbers a ns) ≡ 0
+with-zero a e none = refl
+with-zero (Answer.refused n place) e (some ns) = refl
+with-zero (Answer.accepted d) e (some ns) = e
+
+accepted-zero : (dataset : ℕ → Answer Dataset) → datasetExperiment (dataset 0) ≡ 0 → (x : Effect) → lineExperiment (acceptedLine dataset x) ≡ 0
+unfolding valueLine
+accepted-zero dataset e Effect'.Nothing = refl
+accepted-zero dataset e (Effect'.ToPort port c) = refl
+accepted-zero dataset e (Effect'.Attach port device) = refl
+accepted-zero dataset e (Effect'.AttachVirtual port device a b) = refl
+accepted-zero dataset e (Effect'.Detach port) = refl
+accepted-zero dataset e (Effect'.Value port) = with-zero (dataset 0) e (numbersFrom mostDatasets dataset 0)
+accepted-zero dataset e (Effect'.Disconnect port) = refl
+accepted-zero dataset e (Effect'.Connect a b) = refl
+accepted-zero dataset e Effect'.Empty = refl
+
+answer-zero : (dataset : ℕ → Answer Dataset) → datasetExperiment (dataset 0) ≡ 0 → (a : Answer Effect) → lineExperiment (answerLine dataset a) ≡ 0
+answer-zero dataset e (Answer.refused n place) = refl
+answer-zero dataset e (Answer.accepted x) = accepted-zero dataset e x
+
+-- ---- a record
+
+-- the table before it is sound, and has no numbers
+record Numberless (cells : List ℕ) : Type 0 where
+  good : sound cells ≡ true
+  numbers : NoNumbers (tableAt cells)
+
+module _ (part : ℕ) (cells s : List ℕ) (k : Numberless cells) where
+  record-zero : lineExperiment (recordLine part cells s) ≡ 0
+  unfolding recordLine
+  record-zero = either (malformed part s)
+    where
+      e : Entry
+      e = entryOf part s
+
+      either : (b : Bool) → lineExperiment (cond b (refused 19) (entryLine cells e)) ≡ 0
+      either true = refl
+      either false = answer-zero (datasetByCells cells (e .way) (e .bytes)) (values-no-numbers cells (k .numbers) (e .way) (e .bytes) 0) (offerByCells cells e)
+
+  module _ (b : Bytes s) (plain : experimentIn s ≡ 0) where
+    entry-fits : EntryFits (entryOf part s)
+    unfolding messageIn
+    entry-fits = (Bytes-take (messageSize part s) (drop front s) (Bytes-drop front s b), ap (λ (n : ℕ). ltb n experimentCount) plain)
+
+    after-record : Numberless (cellsAfterRecord part cells s)
+    unfolding cellsAfterRecord
+    after-record = either (malformed part s)
+      where
+        either : (t : Bool) → Numberless (cond t cells (cellsAfter cells (entryOf part s)))
+        either true = k
+        either false = record {
+          good = step-keeps-sound cells (entryOf part s) entry-fits (k .good);
+          numbers = step-keeps-no-numbers cells (entryOf part s) entry-fits (k .good) plain (k .numbers);
+        }
+
+-- ---- all records
+
+lines-zero : (part n : ℕ) (cells s : List ℕ) → Numberless cells → Bytes s → NumbersZero part n s → (after : List Line) → ValuesZero after → ValuesZero (linesOf part n cells s ++ after)
+lines-zero part zero cells s k b z after rest = rest
+lines-zero part (suc n) cells s k b z after rest =
+    let size : ℕ = recordSize part in
+    let x : List ℕ = take size s in
+    (record-zero part cells x k, lines-zero part n (cellsAfterRecord part cells x) (drop size s) (after-record part cells x k (Bytes-take size s b) (z .0)) (Bytes-drop size s b) (z .1) after rest)
+
+last-zero : (s : List ℕ) → ValuesZero (lastLine s)
+last-zero [] = tt
+last-zero (c ∷ cs) = (refl, tt)
+
+pub numberless : NumberlessLog
+unfolding allLines
+numberless part s b z =
+    lines-zero part (records part s) emptyCells s (record { good = empty-sound; numbers = empty-no-numbers }) b z (lastLine (drop (records part s * recordSize part) s)) (last-zero (drop (records part s * recordSize part) s))
