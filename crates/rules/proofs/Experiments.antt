@@ -59,18 +59,19 @@ effectNumber Empty = 0
 record Alike (n m : ℕ) (message : Message) : Type 0 where
   judges : (ports : Ports) (count : ℕ) → judge ports (effectOf n message) count ≡ judge ports (effectOf m message) count
   effects : isAsking (effectOf n message) ≡ false → effectOf n message ≡ effectOf m message
+  datasets : (ports : Ports) (bytes : List ℕ) (k : ℕ) → datasetAnswer ports (effectOf n message) bytes k ≡ datasetAnswer ports (effectOf m message) bytes k
   number : effectNumber (effectOf n message) ≤ n
 
 -- it is the same to a table
 alike : (n m : ℕ) (message : Message) → effectOf n message ≡ effectOf m message → effectNumber (effectOf n message) ≡ 0 → Alike n m message
-alike n m message e none-told = record { judges = λ ports count. ap (λ (x : Effect). judge ports x count) e; effects = λ h. e; number = omega arith }
+alike n m message e none-told = record { judges = λ ports count. ap (λ (x : Effect). judge ports x count) e; effects = λ h. e; datasets = λ ports bytes k. ap (λ (x : Effect). datasetAnswer ports x bytes k) e; number = omega arith }
 
 action-number : (b : Bool) → effectNumber (cond b Empty Nothing) ≡ 0
 action-number true = refl
 action-number false = refl
 
 both : (n m : ℕ) (message : Message) → Alike n m message
-unfolding effectOf judge
+unfolding effectOf judge datasetAnswer
 both n m (Message'.PropertyCommand p o) = alike n m (Message'.PropertyCommand p o) refl refl
 both n m (Message'.PropertyText p o) = alike n m (Message'.PropertyText p o) refl refl
 both n m (Message'.PropertyByte p o v) = alike n m (Message'.PropertyByte p o v) refl refl
@@ -91,7 +92,7 @@ both n m Message'.LockStatusRequest = alike n m Message'.LockStatusRequest refl 
 both n m (Message'.LockStatus v) = alike n m (Message'.LockStatus v) refl refl
 both n m (Message'.PortInformationRequest p i) = alike n m (Message'.PortInformationRequest p i) refl refl
 both n m (Message'.ModeInformationRequest p k i) = alike n m (Message'.ModeInformationRequest p k i) refl refl
-both n m (Message'.InputFormatSetup p k d o) = record { judges = λ ports count. refl; effects = λ h. let z : _≡_ {A = ℕ} 0 1 = cc in absurd (omega arith); number = omega arith }
+both n m (Message'.InputFormatSetup p k d o) = record { judges = λ ports count. refl; effects = λ h. let z : _≡_ {A = ℕ} 0 1 = cc in absurd (omega arith); datasets = λ ports bytes i. refl; number = omega arith }
 both n m (Message'.PortModes p c k i o) = alike n m (Message'.PortModes p c k i o) refl refl
 both n m (Message'.PortCombinations p c) = alike n m (Message'.PortCombinations p c) refl refl
 both n m (Message'.ModeText p k i) = alike n m (Message'.ModeText p k i) refl refl
@@ -104,6 +105,10 @@ both n m (Message'.PortValue p) = alike n m (Message'.PortValue p) refl refl
 both n m (Message'.InputFormat p k d o) = alike n m (Message'.InputFormat p k d o) refl refl
 both n m (Message'.VirtualDisconnect p) = alike n m (Message'.VirtualDisconnect p) refl refl
 both n m (Message'.VirtualConnect a b) = alike n m (Message'.VirtualConnect a b) refl refl
+
+-- handing out takes any number
+pub same-datasets : (n m : ℕ) (message : Message) (ports : Ports) (bytes : List ℕ) (k : ℕ) → datasetAnswer ports (effectOf n message) bytes k ≡ datasetAnswer ports (effectOf m message) bytes k
+same-datasets n m message = both n m message .datasets
 
 -- two answers: accepted alike, and the cells after them
 record Close (cells : List ℕ) (a b : Answer Effect) : Type 0 where
