@@ -1,10 +1,11 @@
-// One record of a log: time in ms, direction, three zeros, then the message part.
+// One record of a log: time in ms, direction, a zero, experiment number, then the message part.
 use codec::tail;
+use numbers::u16_at;
 use protocol::Way;
 ghost use mathlib.Core.Path.{_≡_};
 ghost use Prim.Native.Nat.{_≤_};
 ghost use lib.ListN.{getD, take};
-ghost use Rattle.log.specs.Record.{allZero, messageSize, messageIn, malformed, wayOf};
+ghost use Rattle.log.specs.Record.{allZero, messageSize, messageIn, malformed, wayOf, experimentIn};
 
 // Bytes before the message part.
 const FRONT: usize = 8;
@@ -52,8 +53,7 @@ pub fn message_in(s: &[u8]) -> &[u8]
     head(tail(s, FRONT), message_size(s))
 }
 
-// Refusal 19: another size, a direction over 1, one of the three zeros not 0, or a nonzero byte
-// after the message.
+// Refusal 19: another size, a direction over 1, byte 5 not 0, or a nonzero byte after the message.
 pub fn is_malformed(s: &[u8]) -> bool
     ensures { λ r. ⌜ r ≡ malformed 128 (now (s .entry)) ⌝ }
 {
@@ -63,7 +63,7 @@ pub fn is_malformed(s: &[u8]) -> bool
     if 1 < s[4] {
         return true;
     }
-    if !all_zero(&s[5..FRONT]) {
+    if s[5] != 0 {
         return true;
     }
     !all_zero(&s[FRONT + message_size(s)..RECORD_SIZE])
@@ -77,4 +77,11 @@ pub fn way_in(s: &[u8]) -> Way
         return Way::Down;
     }
     if s[4] == 0 { Way::Down } else { Way::Up }
+}
+
+// The experiment number of a record; 0 stands in for a missing byte.
+pub fn experiment_in(s: &[u8]) -> u16
+    ensures { λ r. ⌜ r ≡ experimentIn (now (s .entry)) ⌝ }
+{
+    u16_at(s, 6)
 }

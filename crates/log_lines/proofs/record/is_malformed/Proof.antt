@@ -1,9 +1,8 @@
 use native.Mathlib.Omega.{arith}
-use mathlib.Core.Path.{sym, _∙_, ap}
+use mathlib.Core.Path.{_∙_, ap}
 use mathlib.Core.Bool.{not}
 use borrow.Author.Needs.{needs}
-use borrow.Author.Tests.{not-true, not-false}
-use Rattle.log.proofs.Records.{wrong-size, wrong-way, wrong-zeros, by-end}
+use Rattle.log.proofs.Records.{wrong-size, wrong-way, wrong-zero, by-end}
 use Rattle.log_lines.proofs.record.is_malformed.Statement.{statement}
 use Rattle.log_lines.proofs.record.is_malformed.Tie as tie
 
@@ -16,8 +15,22 @@ shared-slice-read-if2 c = search needs
 returns-2 : tie.Need-returns-2
 returns-2 c = wrong-way 128 (c .before .before .before .before .args .s .now) (c .before .before .if1 .left) (c .if2 .taken)
 
+shared-slice-read-if3 : tie.Need-shared-slice-read-if3
+shared-slice-read-if3 c = search needs
+
+returns-3 : tie.Need-returns-3
+returns-3 c =
+    let a = c .before .before .before .before .before .before .args in
+    wrong-zero 128 (a .s .now) (c .before .before .before .before .if1 .left) (c .before .before .if2 .left) (c .if3 .taken)
+
+message-size-requires : tie.Need-message-size-requires
+message-size-requires c κs = search needs
+
+add-all-zero : tie.Need-add-all-zero
+add-all-zero c = search needs
+
 sub-all-zero : tie.Need-sub-all-zero
-sub-all-zero c = search needs
+sub-all-zero c = omega (arith, c .message-size .ensures .1)
 
 part-all-zero-start : tie.Need-part-all-zero-start
 part-all-zero-start c = search needs
@@ -28,41 +41,16 @@ part-all-zero-end c = search needs
 all-zero-requires : tie.Need-all-zero-requires
 all-zero-requires c κs = search needs
 
-returns-3 : tie.Need-returns-3
-returns-3 c =
-    let a = c .before .before .before .before .before .before .before .args in
-    wrong-zeros 128 (a .s .now) (c .before .before .before .before .before .if1 .left) (c .before .before .before .if2 .left)
-    (sym (c .before .all-zero .ensures) ∙ not-true (c .before .all-zero .result) (c .if3 .taken))
-
-message-size-requires : tie.Need-message-size-requires
-message-size-requires c κs = search needs
-
-add-all-zero : tie.Need-add-all-zero
-add-all-zero c = search needs
-
-sub-all-zero-2 : tie.Need-sub-all-zero-2
-sub-all-zero-2 c = omega (arith, c .message-size .ensures .1)
-
-part-all-zero-start-2 : tie.Need-part-all-zero-start-2
-part-all-zero-start-2 c = search needs
-
-part-all-zero-end-2 : tie.Need-part-all-zero-end-2
-part-all-zero-end-2 c = search needs
-
-all-zero-requires-2 : tie.Need-all-zero-requires-2
-all-zero-requires-2 c κs = search needs
-
 returns-4 : tie.Need-returns-4
 returns-4 c =
-    let a = c .before .before .before .before .before .before .before .before .before .before .args in
-    let if1 = c .before .before .before .before .before .before .before .before .if1 in
-    let all-zero = c .before .before .before .before .all-zero in
-    ap not (c .all-zero2 .ensures)
-    ∙ by-end 128 (a .s .now) (c .before .before .message-size .result)
-    (if1 .left)
-    (c .before .before .before .before .before .before .if2 .left)
-    (sym (all-zero .ensures) ∙ not-false (all-zero .result) (c .before .before .before .if3 .left))
-    (c .before .before .message-size .ensures .0)
+    let a = c .before .before .before .before .before .before .before .before .before .args in
+    let size = c .before .before .message-size in
+    ap not (c .all-zero .ensures)
+    ∙ by-end 128 (a .s .now) (size .result)
+    (c .before .before .before .before .before .before .before .if1 .left)
+    (c .before .before .before .before .before .if2 .left)
+    (c .before .before .before .if3 .left)
+    (size .ensures .0)
 
 pub is-malformed-spec : {M : Type 1} → statement M
 is-malformed-spec =
@@ -71,15 +59,12 @@ is-malformed-spec =
     returns
     shared-slice-read-if2
     returns-2
+    shared-slice-read-if3
+    returns-3
+    message-size-requires
+    add-all-zero
     sub-all-zero
     part-all-zero-start
     part-all-zero-end
     all-zero-requires
-    returns-3
-    message-size-requires
-    add-all-zero
-    sub-all-zero-2
-    part-all-zero-start-2
-    part-all-zero-end-2
-    all-zero-requires-2
     returns-4)
