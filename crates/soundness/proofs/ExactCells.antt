@@ -1,4 +1,5 @@
--- The cells of a place are those of what it stands for: zeros, or a record's, by its wiring and its two setups.
+-- The cells of a place are those of what it stands for: zeros, or a record's, by its wiring and its two setups; any
+-- experiment number is exact.
 use Prim.Native.Nat.{ℕ, zero, suc, _+_, _-_, _≤_, _<_}
 use native.Mathlib.Nat.{add-zero}
 use native.Mathlib.Omega.{arith}
@@ -13,7 +14,7 @@ use lib.Seq.{take-all, drop-cons}
 use Rattle.protocol.specs.Form.{upFrom}
 use Rattle.rules.specs.declared.Setup.{Setup}
 use Rattle.rules.specs.declared.Wiring.{Wiring}
-use Rattle.rules.specs.Layout.{modeCount, stride, portIndex, deviceIndex, wiringIndex, firstIndex, secondIndex, stateIndex, askedIndex, answeredIndex, formatsIndex}
+use Rattle.rules.specs.Layout.{modeCount, stride, portIndex, deviceIndex, wiringIndex, firstIndex, secondIndex, stateIndex, askedIndex, experimentIndex, answeredIndex, formatsIndex}
 use Rattle.rules.specs.Cells.{formatCell, setupCells, wiringCell, firstPartner, secondPartner, formatCells, modes, recordCells, cellAt, formatAt, setupAt, setupFrom, recordAt, sameCells}
 use Rattle.rules.proofs.CellsSound.{same-refl}
 use Rattle.soundness.specs.Soundness.{wiringIn, emptyPlace, exactSetup, exactAs, exactWiring, exactRecord}
@@ -93,15 +94,21 @@ three : (s : Option Setup) → length (setupCells s) ≡ 3
 three none = refl
 three (some s) = refl
 
-setups-same : (place fs gs : List ℕ) → sameCells (some-cells place askedIndex 6 ++ fs) (setupCells (setupFrom place askedIndex) ++ setupCells (setupFrom place answeredIndex) ++ gs) ≡ (exactSetup place askedIndex && exactSetup place answeredIndex && sameCells fs gs)
+-- the cells from what was asked to what was answered, the experiment number between them
+abbrev settings-front : List ℕ → List ℕ → List ℕ
+settings-front place gs = setupCells (setupFrom place askedIndex) ++ (cellAt place experimentIndex ∷ (setupCells (setupFrom place answeredIndex) ++ gs))
+
+setups-same : (place fs gs : List ℕ) → sameCells (some-cells place askedIndex 7 ++ fs) (settings-front place gs) ≡ (exactSetup place askedIndex && exactSetup place answeredIndex && sameCells fs gs)
 unfolding exactSetup
 setups-same place fs gs =
     let asked : List ℕ = setupCells (setupFrom place askedIndex) in
     let answered : List ℕ = setupCells (setupFrom place answeredIndex) in
-    let one : length asked ≡ 3 = three (setupFrom place askedIndex) in
-    let two : length answered ≡ 3 = three (setupFrom place answeredIndex) in
-    same-append (some-cells place askedIndex 6) (asked ++ answered) fs gs (rw length-append (omega arith))
-    ∙ ap (λ (t : Bool). t && sameCells fs gs) (same-append (some-cells place askedIndex 3) asked (some-cells place answeredIndex 3) answered (omega arith))
+    let number : ℕ = cellAt place experimentIndex in
+    let three-asked : List ℕ = some-cells place askedIndex 3 in
+    let three-answered : List ℕ = some-cells place answeredIndex 3 in
+    same-append three-asked asked (number ∷ (three-answered ++ fs)) (number ∷ (answered ++ gs)) (sym (three (setupFrom place askedIndex)))
+    ∙ (λ i. sameCells three-asked asked && (same number i && same-append three-answered answered fs gs (sym (three (setupFrom place answeredIndex))) i))
+    ∙ sym (and-assoc (sameCells three-asked asked) (sameCells three-answered answered) (sameCells fs gs))
 
 front-same : (w : Wiring) (place fs gs : List ℕ) → sameCells (some-cells place 0 askedIndex ++ fs) (wiringCell w ∷ cellAt place portIndex ∷ cellAt place deviceIndex ∷ firstPartner w ∷ secondPartner w ∷ cellAt place stateIndex ∷ gs) ≡ (exactAs w place && sameCells fs gs)
 front-same w place fs gs =
@@ -122,6 +129,6 @@ record-exact place size =
     let asked : Bool = exactSetup place askedIndex in
     let answered : Bool = exactSetup place answeredIndex in
     sym (ap (λ (l : List ℕ). sameCells l (recordCells (recordAt place))) (first-cells place 0 formatsIndex (omega arith))
-    ∙ front-same w place (some-cells place askedIndex 6 ++ fs) (setupCells (setupFrom place askedIndex) ++ setupCells (setupFrom place answeredIndex) ++ gs)
+    ∙ front-same w place (some-cells place askedIndex 7 ++ fs) (settings-front place gs)
     ∙ ap (λ (t : Bool). exactAs w place && t) (setups-same place fs gs ∙ ap (λ (t : Bool). asked && answered && t) (formats-same fs count) ∙ and-true (asked && answered))
     ∙ sym (and-assoc (exactAs w place) asked answered))

@@ -5,14 +5,14 @@ use mathlib.Core.Path.{_≡_, refl, sym, _∙_, ap}
 use mathlib.Core.Bool.{Bool, true, cond, _&&_, _||_, and-true}
 use mathlib.Core.List.{List}
 use borrow.Author.Tests.{lt-ltb}
-use lib.Dec.{eqb, leb, leb·suc-suc, eqb·suc-zero, eqb·suc-suc}
+use lib.Dec.{eqb, leb, ltb, leb·suc-suc, eqb·suc-zero, eqb·suc-suc}
 use lib.ListN.{drop}
 use lib.Seq.{getD-take, getD-drop}
-use Rattle.rules.specs.Layout.{modeCount, stateIndex, askedIndex, answeredIndex, formatsIndex}
+use Rattle.rules.specs.Layout.{modeCount, experimentCount, stateIndex, askedIndex, experimentIndex, answeredIndex, formatsIndex}
 use Rattle.protocol.specs.Form.{lastMode, lastNotify, mostDatasets, lastKind}
-use Rattle.rules.specs.WellFormed.{setupFits, formatFits, formatsFit, stateFits}
+use Rattle.rules.specs.WellFormed.{setupFits, formatFits, formatsFit, stateFits, experimentFits}
 use Rattle.rules.specs.Cells.{cellAt, formatAt, setupAt, settingsAt}
-use Rattle.soundness.specs.Soundness.{formatsInFit, sameSetups, stateInFits}
+use Rattle.soundness.specs.Soundness.{formatsInFit, sameSetups, stateInFits, experimentInFits}
 
 -- ---- a setup, whose delta is a cell
 
@@ -67,3 +67,16 @@ state-by place a b c =
     let state : ℕ = cellAt place stateIndex in
     (λ i. cond (sym a i) (eqb state 0) (cond (sym b i) (eqb state 1) (eqb state 1 || eqb state (cond (sym c i) 2 3))))
     ∙ state-rule (cellAt place askedIndex) (cellAt place (askedIndex + 1)) (cellAt place (askedIndex + 2)) (cellAt place answeredIndex) (cellAt place (answeredIndex + 1)) (cellAt place (answeredIndex + 2)) state
+
+-- ---- the experiment number
+
+experiment-rule : (m d n e : ℕ) → cond (eqb m 0) (eqb e 0) (ltb e experimentCount) ≡ experimentFits (setupAt m d n) e
+experiment-rule zero d n e = refl
+experiment-rule (suc m) d n e = ap (λ (b : Bool). cond b (eqb e 0) (ltb e experimentCount)) (eqb·suc-zero m)
+
+pub experiment-by : (place : List ℕ) {unasked : Bool} → eqb (cellAt place askedIndex) 0 ≡ unasked → cond unasked (eqb (cellAt place experimentIndex) 0) (ltb (cellAt place experimentIndex) experimentCount) ≡ experimentInFits place
+unfolding experimentInFits
+experiment-by place a =
+    let experiment : ℕ = cellAt place experimentIndex in
+    ap (λ (b : Bool). cond b (eqb experiment 0) (ltb experiment experimentCount)) (sym a)
+    ∙ experiment-rule (cellAt place askedIndex) (cellAt place (askedIndex + 1)) (cellAt place (askedIndex + 2)) experiment

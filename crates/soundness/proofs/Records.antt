@@ -8,7 +8,7 @@ use mathlib.Core.Option.{some}
 use borrow.Author.Tests.{lt-ltb, ltb-true}
 use lib.ListN.{getD, drop}
 use lib.Seq.{getD-take, getD-drop}
-use Rattle.rules.specs.Layout.{places, modeCount, stride, wiringIndex, deviceIndex, firstIndex, secondIndex, stateIndex, askedIndex, answeredIndex, formatsIndex}
+use Rattle.rules.specs.Layout.{places, modeCount, stride, wiringIndex, deviceIndex, firstIndex, secondIndex, stateIndex, askedIndex, experimentIndex, answeredIndex, formatsIndex}
 use Rattle.rules.specs.Facts.{Facts}
 use Rattle.rules.specs.Cells.{formatAt, setupAt, wiringAt, recordAt, sound}
 use Rattle.rules.specs.Offer.{viewOfCells}
@@ -37,6 +37,10 @@ device-at cells i = cell cells i deviceIndex (omega arith)
 pub state-at : (cells : List ℕ) (i : ℕ) → here cells i .settings .state ≡ cellOf cells i stateIndex
 unfolding recordAt
 state-at cells i = cell cells i stateIndex (omega arith)
+
+pub experiment-at : (cells : List ℕ) (i : ℕ) → here cells i .settings .experiment ≡ cellOf cells i experimentIndex
+unfolding recordAt
+experiment-at cells i = cell cells i experimentIndex (omega arith)
 
 -- the three cells of a setup
 three : (cells : List ℕ) (i k : ℕ) → k + 2 < stride → setupAt (getD (placeAtIndex cells i) k 0) (getD (placeAtIndex cells i) (k + 1) 0) (getD (placeAtIndex cells i) (k + 2) 0) ≡ setupAt (cellOf cells i k) (cellOf cells i (k + 1)) (cellOf cells i (k + 2))

@@ -5,10 +5,10 @@ use mathlib.Core.List.{List, [], _∷_}
 use mathlib.Core.Option.{Option, none, some}
 use lib.Dec.{eqb}
 use Rattle.rules.specs.declared.Wiring.{Wiring}
-use Rattle.rules.specs.Layout.{modeCount, wiringIndex, firstIndex, secondIndex, stateIndex, askedIndex, answeredIndex}
+use Rattle.rules.specs.Layout.{modeCount, wiringIndex, firstIndex, secondIndex, stateIndex, askedIndex, experimentIndex, answeredIndex}
 use Rattle.rules.specs.Facts.{View, known}
 use Rattle.rules.specs.Table.{Record, Table, viewOfTable}
-use Rattle.rules.specs.WellFormed.{formatsFit, stateFits, settingsFit, recordFits}
+use Rattle.rules.specs.WellFormed.{formatsFit, stateFits, experimentFits, settingsFit, recordFits}
 use Rattle.rules.specs.Cells.{setupCells, wiringCell, firstPartner, secondPartner, recordCells, placeCells, cellAt, setupFrom, wiringAt, settingsAt, recordAt, placeAt, tableAt, sameCells}
 use Rattle.soundness.specs.Place.{placeAtIndex, fromPlace}
 
@@ -33,7 +33,7 @@ exactWiring place = exactAs (wiringIn place) place
 unfoldable pub exactRecord : List ℕ → Bool
 exactRecord place = sameCells place (recordCells (recordAt place))
 
--- ---- within the lists, and the state by its rule
+-- ---- within the lists, the state and the experiment number by their rules
 
 unfoldable pub formatsInFit : List ℕ → Bool
 formatsInFit place = formatsFit modeCount (settingsAt place .formats)
@@ -47,6 +47,9 @@ sameSetups place =
 
 unfoldable pub stateInFits : List ℕ → Bool
 stateInFits place = stateFits (setupFrom place askedIndex) (setupFrom place answeredIndex) (cellAt place stateIndex)
+
+unfoldable pub experimentInFits : List ℕ → Bool
+experimentInFits place = experimentFits (setupFrom place askedIndex) (cellAt place experimentIndex)
 
 unfoldable pub settingsInFit : List ℕ → Bool
 settingsInFit place = settingsFit (settingsAt place)

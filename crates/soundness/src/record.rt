@@ -1,14 +1,16 @@
-// Whether a record is within its lists and its state goes by its rule, but for its port and its wiring.
+// Whether a record is within its lists, and its state and its experiment number go by their rules, but for its port and its
+// wiring.
 ghost use mathlib.Core.Path.{_≡_};
 ghost use Prim.Native.Nat.{_+_, _<_};
 ghost use lib.ListN.{length};
 ghost use Rattle.rules.specs.Layout.{stride};
 ghost use Rattle.rules.specs.WellFormed.{setupFits, formatFits, factsFit};
 ghost use Rattle.rules.specs.Cells.{formatAt, setupFrom, recordAt};
-ghost use Rattle.soundness.specs.Soundness.{formatsInFit, sameSetups, stateInFits, settingsInFit};
+ghost use Rattle.soundness.specs.Soundness.{formatsInFit, sameSetups, stateInFits, experimentInFits, settingsInFit};
 use rules::layout::ANSWERED;
 use rules::layout::ASKED;
 use rules::layout::DEVICE;
+use rules::layout::EXPERIMENT;
 use rules::layout::FORMATS;
 use rules::layout::MODE_COUNT;
 use rules::layout::STATE;
@@ -74,12 +76,28 @@ fn state_fits(place: &[u32]) -> bool
     (state == 1) | (state == 3)
 }
 
-// Whether what a port was told is within its lists, and the state goes by its rule.
+// Whether the experiment number is 0 where nothing was asked, and one of two bytes where something was.
+fn experiment_fits(place: &[u32]) -> bool
+    requires { ⌜ length (now place) ≡ stride ⌝ }
+    ensures { λ r. ⌜ r ≡ experimentInFits (now (place .entry)) ⌝ }
+{
+    let experiment = place[EXPERIMENT];
+    if place[ASKED] == 0 {
+        return experiment == 0;
+    }
+    experiment < 65536
+}
+
+// Whether what a port was told is within its lists, and the state and the experiment number go by their rules.
 fn settings_fit(place: &[u32]) -> bool
     requires { ⌜ length (now place) ≡ stride ⌝ }
     ensures { λ r. ⌜ r ≡ settingsInFit (now (place .entry)) ⌝ }
 {
-    formats_fit(place) & setup_fits(place, ANSWERED) & setup_fits(place, ASKED) & state_fits(place)
+    formats_fit(place)
+        & setup_fits(place, ANSWERED)
+        & setup_fits(place, ASKED)
+        & state_fits(place)
+        & experiment_fits(place)
 }
 
 // The same, and the device.

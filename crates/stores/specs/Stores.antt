@@ -5,7 +5,7 @@ use mathlib.Core.List.{List, [], _∷_, _++_}
 use mathlib.Core.Option.{Option}
 use lib.Dec.{eqb, ltb}
 use lib.ListN.{length, set, take, drop, replicate}
-use Rattle.rules.specs.Layout.{stride, places, wiringIndex, firstIndex, stateIndex, tableSize, askedIndex}
+use Rattle.rules.specs.Layout.{stride, places, wiringIndex, firstIndex, stateIndex, tableSize, askedIndex, experimentIndex}
 use Rattle.rules.specs.Cells.{setupAt, emptyCells}
 use Rattle.rules.specs.declared.Setup.{Setup}
 use Rattle.soundness.specs.Place.{cellOf}
@@ -22,6 +22,10 @@ stored cells place (put index v ∷ s) = stored (set cells (stride * place + ind
 -- a setup in the three cells from an index on, and the state
 abbrev pub setupStores : ℕ → Setup → ℕ → List Store
 setupStores index setup state = put index (setup .mode + 1) ∷ put (index + 1) (setup .delta) ∷ put (index + 2) (setup .notify) ∷ put stateIndex state ∷ []
+
+-- a 41: its experiment number, what it asks for, and no answer since
+abbrev pub askedStores : Setup → ℕ → List Store
+askedStores setup experiment = put experimentIndex experiment ∷ setupStores askedIndex setup 1
 
 -- zeros in so many cells
 unfoldable pub zeroed : List ℕ → ℕ → ℕ → List ℕ
