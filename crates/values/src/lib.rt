@@ -1,5 +1,6 @@
-// What is read of a value's bytes by its format.
+// What is read of a value's bytes by its format, and the experiment number that it carries.
 pub mod datasets;
+pub mod experiment;
 pub mod format;
 pub mod number;
 pub mod size;
