@@ -14,18 +14,18 @@ use Rattle.rules.specs.declared.Setup.{Setup}
 use Rattle.rules.specs.declared.Wiring.{Wiring}
 use Rattle.rules.specs.declared.Wiring.the-variants.{Unjoined, Joined, Virtual}
 use Rattle.rules.specs.Answer.{refused, accepted}
-use Rattle.rules.specs.Layout.{portCount, modeCount, places, stride, deviceIndex, stateIndex, askedIndex, answeredIndex, formatsIndex}
+use Rattle.rules.specs.Layout.{portCount, modeCount, places, stride, deviceIndex, stateIndex, askedIndex, experimentIndex, answeredIndex, formatsIndex}
 use Rattle.rules.specs.Table.{viewOfTable}
 use Rattle.rules.specs.WellFormed.{setupFits, isJoinedTo, isPairWith, wiringFits}
 use Rattle.rules.specs.Cells.{firstPartner, secondPartner, formatAt, setupAt, setupFrom, wiringAt, tableAt, sound}
 use Rattle.rules.specs.Offer.{viewOfCells}
-use Rattle.rules.proofs.CellsRecord.{five-passed}
+use Rattle.rules.proofs.SettingsFit.{five-passed}
 use Rattle.rules.proofs.Laws.{table-sound}
 use Rattle.rules.proofs.Sound.{wiring?, wiring-fits}
 use Rattle.soundness.specs.Place.{cellOf, factsAt, wiringHere}
 use Rattle.queries.specs.FormatAnswer.{formatFrom, formatByCells}
 use Rattle.queries.specs.PortAnswer.{portFacts, portByCells}
-use Rattle.soundness.proofs.Records.{here, some-at, device-at, wiring-at, asked-at, answered-at, state-at, format-at, fit, settings-listed}
+use Rattle.soundness.proofs.Records.{here, some-at, device-at, wiring-at, asked-at, answered-at, state-at, experiment-at, format-at, fit, settings-listed}
 
 -- ---- a sound table is not refused
 
@@ -104,20 +104,22 @@ module _ (cells : List ℕ) (i port : ℕ) (s : sound cells ≡ true) (h : i < p
   asked-fits = sym (ap setupFits (asked-from cells i)) ∙ settings-listed cells i port s h found .asked
 
   -- all that is known of the port
-  pub port-at : (device state : ℕ) (wiring : Wiring) (answered asked : Option Setup)
+  pub port-at : (device state experiment : ℕ) (wiring : Wiring) (answered asked : Option Setup)
       → device ≡ cellOf cells i deviceIndex
       → wiring ≡ wiringHere cells i
       → answered ≡ setupFrom cells (stride * i + answeredIndex)
       → asked ≡ setupFrom cells (stride * i + askedIndex)
       → state ≡ cellOf cells i stateIndex
-      → some (record { device = device; wiring = wiring; answered = answered; asked = asked; state = state }) ≡ portFacts (viewOfCells cells port)
-  port-at device state wiring answered asked d w x y z =
+      → experiment ≡ cellOf cells i experimentIndex
+      → some (record { device = device; wiring = wiring; answered = answered; asked = asked; state = state; experiment = experiment }) ≡ portFacts (viewOfCells cells port)
+  port-at device state experiment wiring answered asked d w x y z n =
       (λ j. some (record {
         device = (d ∙ sym (device-at cells i)) j;
         wiring = (w ∙ sym (wiring-at cells i)) j;
         answered = (x ∙ sym (answered-from cells i)) j;
         asked = (y ∙ sym (asked-from cells i)) j;
         state = (z ∙ sym (state-at cells i)) j;
+        experiment = (n ∙ sym (experiment-at cells i)) j;
       })) ∙ sym (ap portFacts (found ∙ some-at cells i h))
 
   -- ---- the format of a mode

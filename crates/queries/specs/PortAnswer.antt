@@ -21,10 +21,12 @@ pub record PortFacts : Type 0 where
   pub answered : Option Setup
   pub asked : Option Setup
   pub state : ℕ
+  -- that came with the latest asking; 0 before any
+  pub experiment : ℕ
 
 abbrev pub portFacts : Option Facts → Option PortFacts
 portFacts none = none
-portFacts (some f) = some (record { device = f .device; wiring = f .wiring; answered = f .settings .answered; asked = f .settings .asked; state = f .settings .state })
+portFacts (some f) = some (record { device = f .device; wiring = f .wiring; answered = f .settings .answered; asked = f .settings .asked; state = f .settings .state; experiment = f .settings .experiment })
 
 unfoldable pub portByCells : List ℕ → ℕ → Answer (Option PortFacts)
 portByCells cells port = cond (sound cells) (accepted (portFacts (viewOfCells cells port))) (refused 9 0)
@@ -35,5 +37,5 @@ setupOf (Latest s) = some s
 
 abbrev pub answerOf : Port → Answer (Option PortFacts)
 answerOf Absent = accepted none
-answerOf (Present device wiring answered asked state) = accepted (some (record { device = device; wiring = wiring; answered = setupOf answered; asked = setupOf asked; state = state }))
+answerOf (Present device wiring answered asked state experiment) = accepted (some (record { device = device; wiring = wiring; answered = setupOf answered; asked = setupOf asked; state = state; experiment = experiment }))
 answerOf (Refused number place) = refused number place

@@ -5,6 +5,7 @@ use rules::Wiring;
 use rules::layout::ANSWERED;
 use rules::layout::ASKED;
 use rules::layout::DEVICE;
+use rules::layout::EXPERIMENT;
 use rules::layout::FIRST;
 use rules::layout::FORMATS;
 use rules::layout::JOINED;
@@ -37,7 +38,8 @@ pub enum LatestSetup {
     Latest { setup: Setup },
 }
 
-// What is known of a port, its formats left out.
+// What is known of a port, its formats left out; the experiment number is the one that came with the latest asking, 0
+// before any.
 pub enum Port {
     Absent,
     Present {
@@ -46,6 +48,7 @@ pub enum Port {
         answered: LatestSetup,
         asked: LatestSetup,
         state: u8,
+        experiment: u16,
     },
     Refused {
         number: u8,
@@ -116,6 +119,7 @@ pub(crate) fn port_of(table: &[u32], port: u8) -> Port
         answered,
         asked,
         state: table[STRIDE * place + STATE] as u8,
+        experiment: table[STRIDE * place + EXPERIMENT] as u16,
     }
 }
 

@@ -9,7 +9,7 @@ use Rattle.rules.specs.Answer.{accepted}
 use Rattle.rules.specs.Facts.{Facts}
 use Rattle.soundness.proofs.Places.{found, nowhere}
 use Rattle.soundness.specs.Place.{factsAt}
-use Rattle.soundness.proofs.Bounds.{state-small}
+use Rattle.soundness.proofs.Bounds.{state-small, experiment-small}
 use Rattle.queries.proofs.Queries.{port-sound, partners-small, answered-fits, asked-fits, port-at}
 use Rattle.soundness.proofs.Records.{device-small}
 use Rattle.queries.specs.PortAnswer.{PortFacts, portFacts}
@@ -118,15 +118,39 @@ cast-t19 c =
     let is = found cells (sound-length cells ok) (a .port) i (find .ensures .1) in
     record { fits = omega (arith, state-small cells i (a .port) ok (omega (arith, find .ensures .0, c .before .before .before .before .before .if1 .left)) is) }
 
-returns-2 : tie.Need-returns-2
-returns-2 c =
-    let find = c .before .before .before .before .before .before .find in
-    let a = c .before .before .before .before .before .before .before .before .args in
+mul-t20 : tie.Need-mul-t20
+mul-t20 c = search needs
+
+add-t21 : tie.Need-add-t21
+add-t21 c = search needs
+
+mul-t22 : tie.Need-mul-t22
+mul-t22 c = search needs
+
+shared-slice-read-t24 : tie.Need-shared-slice-read-t24
+shared-slice-read-t24 c =
+    let start = c .before .before .before .before .before .before .before .before .before in
+    omega (arith, sound-length (start .args .table .now) (start .pre), c .before .before .before .before .before .before .before .find .ensures .0, c .before .before .before .before .before .before .if1 .left)
+
+cast-t25 : tie.Need-cast-t25
+cast-t25 c =
+    let find = c .before .before .before .before .before .before .before .find in
+    let a = c .before .before .before .before .before .before .before .before .before .args in
     let cells = a .table .now in
-    let ok = c .before .before .before .before .before .before .before .before .pre in
+    let ok = c .before .before .before .before .before .before .before .before .before .pre in
     let i = find .result in
     let is = found cells (sound-length cells ok) (a .port) i (find .ensures .1) in
-    ap (λ (x : Option PortFacts). accepted x) (port-at cells i (a .port) ok (omega (arith, find .ensures .0, c .before .before .before .before .before .if1 .left)) is _ _ _ _ _ refl (c .before .before .before .before .wiring-at .ensures) (c .before .before .before .setup-at .ensures) (c .before .before .setup-at2 .ensures) refl) ∙ sym (port-sound cells (a .port) ok)
+    record { fits = omega (arith, experiment-small cells i (a .port) ok (omega (arith, find .ensures .0, c .before .before .before .before .before .before .if1 .left)) is) }
+
+returns-2 : tie.Need-returns-2
+returns-2 c =
+    let find = c .before .before .before .before .before .before .before .find in
+    let a = c .before .before .before .before .before .before .before .before .before .args in
+    let cells = a .table .now in
+    let ok = c .before .before .before .before .before .before .before .before .before .pre in
+    let i = find .result in
+    let is = found cells (sound-length cells ok) (a .port) i (find .ensures .1) in
+    ap (λ (x : Option PortFacts). accepted x) (port-at cells i (a .port) ok (omega (arith, find .ensures .0, c .before .before .before .before .before .before .if1 .left)) is _ _ _ _ _ _ refl (c .before .before .before .before .before .wiring-at .ensures) (c .before .before .before .before .setup-at .ensures) (c .before .before .before .setup-at2 .ensures) refl refl) ∙ sym (port-sound cells (a .port) ok)
 
 pub port-of-spec : {M : Type 1} → statement M
 port-of-spec =
@@ -151,4 +175,9 @@ port-of-spec =
     mul-t16
     shared-slice-read-t18
     cast-t19
+    mul-t20
+    add-t21
+    mul-t22
+    shared-slice-read-t24
+    cast-t25
     returns-2)
