@@ -9,14 +9,15 @@ use borrow.Author.Tests.{lt-ltb, le-ltb, eqb-true, eqb-false, leb-true, ltb-true
 use lib.Dec.{eqb, leb, ltb}
 use lib.ListN.{length, getD, take, drop, length-append, length-take, length-drop, List·getD-eq-default}
 use lib.Seq.{getD-take, getD-drop}
-use Rattle.protocol.specs.Number.{Bytes}
+use Rattle.protocol.specs.Number.{Bytes, littleEndian}
 use Rattle.protocol.proofs.Bytes.{Bytes-take, Bytes-drop}
 use Rattle.protocol.proofs.Tests.{which, and-left, and-right}
+use Rattle.rules.specs.Layout.{experimentCount}
 use Rattle.rules.specs.Cells.{sound}
 use Rattle.rules.specs.Offer.{cellsAfter}
 use Rattle.rules.proofs.Laws.{step-keeps-sound}
 use Rattle.log.specs.Decimal.{lineText}
-use Rattle.log.specs.Record.{front, recordSize, entryOf, malformed, messageSize, messageIn}
+use Rattle.log.specs.Record.{front, recordSize, entryOf, malformed, messageSize, messageIn, experimentIn}
 use Rattle.log.specs.Line.{Line, recordLine, cellsAfterRecord, refusalOf, numbersOf}
 use Rattle.protocol.specs.Overwrite.{overwrite}
 use Rattle.log.specs.Cutting.{Run, worked, printed}
@@ -192,6 +193,10 @@ message-bytes : (s : List ℕ) → ((k : ℕ) → getD s k 0 < 256) → Bytes (m
 unfolding messageIn
 message-bytes s h = Bytes-take (messageSize 128 s) (drop front s) (Bytes-drop front s (all-bytes s h))
 
+experiment-below : (s : List ℕ) → ((k : ℕ) → getD s k 0 < 256) → experimentIn s < experimentCount
+unfolding experimentIn littleEndian
+experiment-below s h = omega (arith, h 6, h 7)
+
 -- every record keeps a sound table sound
 pub record-keeps-sound : (cells s : List ℕ) → ((n : ℕ) → getD s n 0 < 256) → sound cells ≡ true → sound (cellsAfterRecord 128 cells s) ≡ true
 unfolding cellsAfterRecord
@@ -199,7 +204,7 @@ record-keeps-sound cells s bytes good = go (malformed 128 s)
   where
     go : (b : Bool) → sound (cond b cells (cellsAfter cells (entryOf 128 s))) ≡ true
     go true = good
-    go false = step-keeps-sound cells (entryOf 128 s) (message-bytes s bytes) good
+    go false = step-keeps-sound cells (entryOf 128 s) (message-bytes s bytes, lt-ltb (experimentIn s) experimentCount (experiment-below s bytes)) good
 
 -- a part of bytes is bytes
 pub part-bytes : (s : List ℕ) (from size n : ℕ) → ((k : ℕ) → getD s k 0 < 256) → getD (take size (drop from s)) n 0 < 256

@@ -1,5 +1,5 @@
 -- Offering a message: what judging says of the table, what changes, and what is answered.
-use Prim.Native.Nat.{ℕ}
+use Prim.Native.Nat.{ℕ, _<_}
 use mathlib.Core.Path.{_≡_, refl, sym, _∙_, ap}
 use mathlib.Core.Bool.{Bool, true, false, cond}
 use mathlib.Core.List.{List, [], _∷_}
@@ -29,10 +29,10 @@ use Rattle.rules.proofs.Effect.{the-type}
 use Rattle.rules.proofs.Kept.{fresh-by, virtual-by, wanted}
 use Rattle.rules.proofs.OpenBytes.{open-alike}
 use Rattle.rules.proofs.Ranges.{effect-fits}
-use Rattle.rules.specs.Layout.{tableSize}
+use Rattle.rules.specs.Layout.{experimentCount, tableSize}
 use Rattle.table.specs.Judged.{refusalBy, judgedBy}
 use Rattle.table.specs.OfferAnswer.{emptyAnswer}
-use borrow.Author.Tests.{eq-eqb, ne-eqb}
+use borrow.Author.Tests.{eq-eqb, ne-eqb, lt-ltb}
 
 -- ---- what judging says of the table
 
@@ -92,28 +92,31 @@ offer-sound : (cells : List ℕ) (e : Entry) → sound cells ≡ true → offerB
 unfolding offerByCells
 offer-sound cells e s = rw s
 
-module _ (cells s : List ℕ) (way : Way) (good : sound cells ≡ true) where
-  pub offered-unread : (n place : ℕ) → decode way s ≡ Decode.refused n place → offerByCells cells (record { way = way; bytes = s }) ≡ refused n place
-  unfolding judgeEntry
-  offered-unread n place e = offer-sound cells (record { way = way; bytes = s }) good ∙ ap (judgeReading (portsOfCells cells) s) e
+module _ (cells s : List ℕ) (way : Way) (experiment : ℕ) (good : sound cells ≡ true) where
+  abbrev entry : Entry
+  entry = record { way = way; bytes = s; experiment = experiment }
 
-  pub offered-message : (m : Message) (e : Effect) (tail : List ℕ) → decode way s ≡ Decode.accepted (formOf m) (valuesOf m) → e ≡ effectOf m → tail ≡ drop 4 s → offerByCells cells (record { way = way; bytes = s }) ≡ judgedBy cells e (length tail)
+  pub offered-unread : (n place : ℕ) → decode way s ≡ Decode.refused n place → offerByCells cells entry ≡ refused n place
+  unfolding judgeEntry
+  offered-unread n place e = offer-sound cells entry good ∙ ap (judgeReading (portsOfCells cells) s experiment) e
+
+  pub offered-message : (m : Message) (e : Effect) (tail : List ℕ) → decode way s ≡ Decode.accepted (formOf m) (valuesOf m) → e ≡ effectOf experiment m → tail ≡ drop 4 s → offerByCells cells entry ≡ judgedBy cells e (length tail)
   unfolding judgeEntry
   offered-message m e tail read is rest =
       let ports = portsOfCells cells in
-      offer-sound cells (record { way = way; bytes = s }) good
-      ∙ ap (judgeReading ports s) read
-      ∙ ap (λ (x : Message). unlessRefused (judge ports (effectOf x) (length (openOf s (Decode.accepted (formOf m) (valuesOf m))))) (accepted (effectOf x))) (message-back m)
-      ∙ ap (λ (n : ℕ). unlessRefused n (accepted (effectOf m))) (open-alike m s .judges ports)
+      offer-sound cells entry good
+      ∙ ap (judgeReading ports s experiment) read
+      ∙ ap (λ (x : Message). unlessRefused (judge ports (effectOf experiment x) (length (openOf s (Decode.accepted (formOf m) (valuesOf m))))) (accepted (effectOf experiment x))) (message-back m)
+      ∙ ap (λ (n : ℕ). unlessRefused n (accepted (effectOf experiment m))) (open-alike experiment m s .judges ports)
       ∙ (λ i. unlessRefused (judge ports (sym is i) (length (sym rest i))) (accepted (sym is i)))
 
-  pub cells-by : (v : Answer Effect) → offerByCells cells (record { way = way; bytes = s }) ≡ v → cellsAfter cells (record { way = way; bytes = s }) ≡ appliedTo cells v
+  pub cells-by : (v : Answer Effect) → offerByCells cells entry ≡ v → cellsAfter cells entry ≡ appliedTo cells v
   unfolding cellsAfter
   cells-by v e = ap (appliedTo cells) e
 
 -- the fields of an accepted message are within their lists
-pub fits-by : (s : List ℕ) (way : Way) (m : Message) (e : Effect) → Bytes s → decode way s ≡ Decode.accepted (formOf m) (valuesOf m) → e ≡ effectOf m → effectFits e ≡ true
-fits-by s way m e bytes read is = ap effectFits (is ∙ sym (ap effectOf (message-back m))) ∙ effect-fits way s bytes (formOf m) (valuesOf m) read
+pub fits-by : (s : List ℕ) (way : Way) (experiment : ℕ) (m : Message) (e : Effect) → Bytes s → experiment < experimentCount → decode way s ≡ Decode.accepted (formOf m) (valuesOf m) → e ≡ effectOf experiment m → effectFits e ≡ true
+fits-by s way experiment m e bytes small read is = ap effectFits (is ∙ sym (ap (effectOf experiment) (message-back m))) ∙ effect-fits experiment (lt-ltb experiment experimentCount small) way s bytes (formOf m) (valuesOf m) read
 
 -- ---- emptying
 

@@ -29,7 +29,7 @@ use Rattle.rules.proofs.Kept.{good-pair}
 use Rattle.rules.proofs.CellsSound.{sound-is, sound-length, empty-cells}
 use Rattle.rules.proofs.Laws.{table-sound}
 use Rattle.soundness.specs.Place.{placeOf, firstFree, cellOf, findPlace, freePlace}
-use Rattle.stores.specs.Stores.{put, stored, setupStores, zeroed, askedAt, ifPlace, emptied, wiredAt}
+use Rattle.stores.specs.Stores.{put, stored, setupStores, askedStores, zeroed, askedAt, ifPlace, emptied, wiredAt}
 use Rattle.stores.proofs.IfPlace.{is-placed, both-wired}
 use Rattle.soundness.proofs.Places.{sixteen, find-place, free-place}
 use Rattle.stores.proofs.Stores.{cell-of, stored-length}
@@ -165,12 +165,12 @@ module _ (cells : List ℕ) (ok : sound cells ≡ true) where
     abbrev below : place < places
     below = present-below port place k at
 
-    pub ask-is : (s : Setup) (out : List ℕ) → out ≡ ifPlace cells place (stored cells place (setupStores askedIndex s 1)) → out ≡ cellsOf (apply (ToPort port (Asked s)) t)
+    pub ask-is : (s : Setup) (x : ℕ) (out : List ℕ) → out ≡ ifPlace cells place (stored cells place (askedStores s x)) → out ≡ cellsOf (apply (ToPort port (Asked s x)) t)
     unfolding apply
-    ask-is s out new =
-        is-placed cells place (stored cells place (setupStores askedIndex s 1)) (sound-length cells ok) below out new ∙ (λ i. stored (is i) (at i) (setupStores askedIndex s 1))
-        ∙ change-cells t port (onSettings (learn (Asked s))) f (setupStores askedIndex s 1) (formed .loose .distinct) seen-as
-        (omega arith, (omega arith, (omega arith, (omega arith, tt)))) (ask-block itself s)
+    ask-is s x out new =
+        is-placed cells place (stored cells place (askedStores s x)) (sound-length cells ok) below out new ∙ (λ i. stored (is i) (at i) (askedStores s x))
+        ∙ change-cells t port (onSettings (learn (Asked s x))) f (askedStores s x) (formed .loose .distinct) seen-as
+        (omega arith, (omega arith, (omega arith, (omega arith, (omega arith, tt))))) (ask-block itself s x)
 
     pub answer-is : (s : Setup) (out : List ℕ) → out ≡ ifPlace cells place (stored cells place (setupStores answeredIndex s (answeredState (askedAt cells place) s))) → out ≡ cellsOf (apply (ToPort port (Answered s)) t)
     unfolding apply

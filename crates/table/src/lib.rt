@@ -42,12 +42,12 @@ pub fn empty(table: &mut [u32]) -> Outcome
     Outcome::Accepted
 }
 
-// Offers a message to the table, which follows it where it is accepted.
-pub fn offer(table: &mut [u32], message: &[u8], way: Way) -> Outcome
-    ensures { λ r. ⌜ (OfferAnswer.answerOf r ≡ outcome (offerByCells (now (table .entry)) (record { way = way; bytes = now (message .entry) }))) × (now (table .exit) ≡ cellsAfter (now (table .entry)) (record { way = way; bytes = now (message .entry) })) ⌝ }
+// Offers a message with its experiment number to the table, which follows it where it is accepted.
+pub fn offer(table: &mut [u32], message: &[u8], way: Way, experiment: u16) -> Outcome
+    ensures { λ r. ⌜ (OfferAnswer.answerOf r ≡ outcome (offerByCells (now (table .entry)) (record { way = way; bytes = now (message .entry); experiment = experiment }))) × (now (table .exit) ≡ cellsAfter (now (table .entry)) (record { way = way; bytes = now (message .entry); experiment = experiment })) ⌝ }
 {
     if is_sound(table) {
-        return offer_sound(table, message, way);
+        return offer_sound(table, message, way, experiment);
     }
     Outcome::Refused {
         number: 9,
@@ -57,7 +57,7 @@ pub fn offer(table: &mut [u32], message: &[u8], way: Way) -> Outcome
 
 // Hands out one dataset of a message, as the table stands.
 pub fn dataset(table: &[u32], message: &[u8], way: Way, number: usize) -> Dataset
-    ensures { λ r. ⌜ DatasetAnswer.answerOf r ≡ datasetByCells (now (table .entry)) (record { way = way; bytes = now (message .entry) }) number ⌝ }
+    ensures { λ r. ⌜ DatasetAnswer.answerOf r ≡ datasetByCells (now (table .entry)) way (now (message .entry)) number ⌝ }
 {
     if is_sound(table) {
         return dataset_sound(table, message, way, number);

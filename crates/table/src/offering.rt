@@ -63,13 +63,17 @@ pub(crate) fn offer_effect(table: &mut [u32], e: Effect, count: usize) -> Outcom
     Outcome::Accepted
 }
 
-// Any message: judged, and where it is accepted, followed.
-pub(crate) fn offer_sound(table: &mut [u32], message: &[u8], way: Way) -> Outcome
+// Any message with its experiment number: judged, and where it is accepted, followed.
+pub(crate) fn offer_sound(table: &mut [u32], message: &[u8], way: Way, experiment: u16) -> Outcome
     requires { ⌜ sound (now table) ≡ true ⌝ }
-    ensures { λ r. ⌜ (answerOf r ≡ outcome (offerByCells (now (table .entry)) (record { way = way; bytes = now (message .entry) }))) × (now (table .exit) ≡ cellsAfter (now (table .entry)) (record { way = way; bytes = now (message .entry) })) ⌝ }
+    ensures { λ r. ⌜ (answerOf r ≡ outcome (offerByCells (now (table .entry)) (record { way = way; bytes = now (message .entry); experiment = experiment }))) × (now (table .exit) ≡ cellsAfter (now (table .entry)) (record { way = way; bytes = now (message .entry); experiment = experiment })) ⌝ }
 {
     match read(message, way) {
-        Reading::Accepted(m) => offer_effect(table, effect_of(m), tail(message, 4).len()),
+        Reading::Accepted(m) => offer_effect(
+            table,
+            effect_of(m, experiment),
+            tail(message, 4).len(),
+        ),
         Reading::Refused { number, place } => Outcome::Refused { number, place },
     }
 }

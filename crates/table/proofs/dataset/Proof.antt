@@ -16,7 +16,7 @@ returns c = search needs
 returns-2 : tie.Need-returns-2
 returns-2 c =
     let a = c .before .before .before .before .args in
-    sym (dataset-9 (a .table .now) (sym (c .before .is-sound .ensures) ∙ c .if1 .left) (record { way = a .way; bytes = a .message .now }) (a .number))
+    sym (dataset-9 (a .table .now) (sym (c .before .is-sound .ensures) ∙ c .if1 .left) (a .way) (a .message .now) (a .number))
 
 pub dataset-spec : {M : Type 1} → statement M
 dataset-spec = tie.close (tie.spec is-sound-requires dataset-sound-requires returns returns-2)

@@ -25,7 +25,7 @@ returns-2 : tie.Need-returns-2
 returns-2 c =
     let a = c .before .before .before .before .before .args in
     let unsound = sym (c .before .is-sound .ensures) ∙ c .if1 .left in
-    let e : Entry = record { way = a .way; bytes = a .message .now } in
+    let e : Entry = record { way = a .way; bytes = a .message .now; experiment = a .experiment } in
     (sym (ap outcome (offer-9 (a .table .now) unsound e)), sym (cells-stay (a .table .now) unsound e))
 
 pub offer-spec : {M : Type 1} → statement M

@@ -27,7 +27,7 @@ offer-effect-requires c κs =
     let shared-slice-known = c .before .before .before .before .before .before .before .shared-slice-known in
     let a = c .before .before .before .before .before .before .before .before .before .args in
     let cells = a .table .now in
-    (p, fits-by (a .message .now) (a .way) _ (c .before .effect-of .result) (all-bytes (a .message .now) (λ (k : ℕ). omega (arith, shared-slice-known .given k))) (sym (c .before .before .before .before .before .before .read .ensures) ∙ ap answerOf (c .before .before .before .before .m .given .1)) (c .before .effect-of .ensures))
+    (p, fits-by (a .message .now) (a .way) (a .experiment) _ (c .before .effect-of .result) (all-bytes (a .message .now) (λ (k : ℕ). omega (arith, shared-slice-known .given k))) (omega (arith, c .before .before .before .before .before .before .before .before .before .good)) (sym (c .before .before .before .before .before .before .read .ensures) ∙ ap answerOf (c .before .before .before .before .m .given .1)) (c .before .effect-of .ensures))
 
 enum-known-number : tie.Need-enum-known-number
 enum-known-number c = search needs
@@ -43,16 +43,16 @@ returns c =
     let effect-of = c .before .before .before .before .effect-of in
     let a = c .before .before .before .before .before .before .before .before .before .before .before .before .args in
     let cells = a .table .now in
-    let k = offered-message cells (a .message .now) (a .way) p _ (effect-of .result) _ (sym (read .ensures) ∙ ap answerOf (m .given .1)) (effect-of .ensures) (c .before .before .before .tail .ensures) in
-    (c .before .before .offer-effect .ensures .0 ∙ sym (ap outcome k), c .before .before .offer-effect .ensures .1 ∙ sym (cells-by cells (a .message .now) (a .way) p _ k))
+    let k = offered-message cells (a .message .now) (a .way) (a .experiment) p _ (effect-of .result) _ (sym (read .ensures) ∙ ap answerOf (m .given .1)) (effect-of .ensures) (c .before .before .before .tail .ensures) in
+    (c .before .before .offer-effect .ensures .0 ∙ sym (ap outcome k), c .before .before .offer-effect .ensures .1 ∙ sym (cells-by cells (a .message .now) (a .way) (a .experiment) p _ k))
 
 returns-2 : tie.Need-returns-2
 returns-2 c =
     let p = c .before .before .before .before .before .before .pre in
     let a = c .before .before .before .before .before .before .args in
     let cells = a .table .now in
-    let k = offered-unread cells (a .message .now) (a .way) p _ _ (sym (c .before .before .before .read .ensures) ∙ ap answerOf (c .before .number .given .1)) in
-    (sym (ap outcome k), sym (cells-by cells (a .message .now) (a .way) p _ k))
+    let k = offered-unread cells (a .message .now) (a .way) (a .experiment) p _ _ (sym (c .before .before .before .read .ensures) ∙ ap answerOf (c .before .number .given .1)) in
+    (sym (ap outcome k), sym (cells-by cells (a .message .now) (a .way) (a .experiment) p _ k))
 
 pub offer-sound-spec : {M : Type 1} → statement M
 offer-sound-spec =
