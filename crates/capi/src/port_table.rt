@@ -30,16 +30,21 @@ pub extern "C" fn castanetash_empty(table: &mut [u32]) -> u64
     outcome_number(empty(table))
 }
 
-// Offers a message to a table. Returns 0 where it is accepted; else the refusal number times 2 ^ 32
+// Offers a message with its experiment number to a table. Returns 0 where it is accepted; else the refusal number times 2 ^ 32
 // plus the place, and nothing changes.
 #[no_mangle]
-pub extern "C" fn castanetash_offer(table: &mut [u32], message: &[u8], way: u8) -> u64
-    ensures { λ r. ⌜ (r ≡ outcomeNumber (outcome (offerByCells (now (table .entry)) (record { way = wayOf way; bytes = now (message .entry) })))) × (now (table .exit) ≡ cellsAfter (now (table .entry)) (record { way = wayOf way; bytes = now (message .entry) })) ⌝ }
+pub extern "C" fn castanetash_offer(
+    table: &mut [u32],
+    message: &[u8],
+    way: u8,
+    experiment: u16,
+) -> u64
+    ensures { λ r. ⌜ (r ≡ outcomeNumber (outcome (offerByCells (now (table .entry)) (record { way = wayOf way; bytes = now (message .entry); experiment = experiment })))) × (now (table .exit) ≡ cellsAfter (now (table .entry)) (record { way = wayOf way; bytes = now (message .entry); experiment = experiment })) ⌝ }
 {
-    outcome_number(offer(table, message, way_of(way)))
+    outcome_number(offer(table, message, way_of(way), experiment))
 }
 
-// Hands out one dataset of a message, in 7 cells. Returns 7; 0 where there are fewer cells, of which
+// Hands out one dataset of a message, in 8 cells. Returns 8; 0 where there are fewer cells, of which
 // none changes.
 #[no_mangle]
 pub extern "C" fn castanetash_dataset(
@@ -49,13 +54,13 @@ pub extern "C" fn castanetash_dataset(
     number: usize,
     cells: &mut [u64],
 ) -> usize
-    ensures { λ r. ⌜ (r ≡ filledBy (datasetRow (datasetByCells (now (table .entry)) (record { way = wayOf way; bytes = now (message .entry) }) number)) (now (cells .entry))) × (now (cells .exit) ≡ filledWith (datasetRow (datasetByCells (now (table .entry)) (record { way = wayOf way; bytes = now (message .entry) }) number)) (now (cells .entry))) ⌝ }
+    ensures { λ r. ⌜ (r ≡ filledBy (datasetRow (datasetByCells (now (table .entry)) (wayOf way) (now (message .entry)) number)) (now (cells .entry))) × (now (cells .exit) ≡ filledWith (datasetRow (datasetByCells (now (table .entry)) (wayOf way) (now (message .entry)) number)) (now (cells .entry))) ⌝ }
 {
     let row = dataset_row(dataset(table, message, way_of(way), number));
     fill(cells, &row)
 }
 
-// What the table says of a port, in 14 cells. Returns 14; 0 where there are fewer cells, of which
+// What the table says of a port, in 15 cells. Returns 15; 0 where there are fewer cells, of which
 // none changes.
 #[no_mangle]
 pub extern "C" fn castanetash_port(table: &[u32], number: u8, cells: &mut [u64]) -> usize

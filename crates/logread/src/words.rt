@@ -26,8 +26,9 @@ Reads the log of one hub, from FILE or else from standard input, and prints a
 line for each of its records, and the totals.
 
 A record is 136 bytes: the time in ms (4 bytes, the lowest first), the
-direction (0 to the hub, 1 from it), 3 zeros, and 128 bytes for the message,
-with zeros after it.
+direction (0 to the hub, 1 from it), a zero, the number of the experiment
+(2 bytes, the lowest first), and 128 bytes for the message, with zeros after
+it.
 
 A line is the number of the record, from 1, and its refusal: 0 if it is
 accepted, else the number of the reason, as README.md lists them. For an
@@ -38,6 +39,7 @@ accepted value it goes on with
              1 asked, and not answered since: the value is in the old mode
              2 answered as asked
              3 answered otherwise
+  the number of the experiment that asked, in state 2; else 0
   the datasets: whole numbers, and floats as their 32 bits
 
 The totals are the number of records and how many of them are refused.

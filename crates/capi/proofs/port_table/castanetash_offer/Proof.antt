@@ -1,11 +1,24 @@
-use mathlib.Core.Path.{_∙_, ap}
+use Prim.Native.Nat.{ℕ}
+use mathlib.Core.Path.{_≡_, _∙_, ap}
+use mathlib.Core.List.{List}
 use Rattle.protocol.specs.declared.Way.{Way}
-use Rattle.rules.specs.Offer.{offerByCells, cellsAfter}
-use Rattle.rules.specs.Answer.{outcome}
+use Rattle.rules.specs.Offer.{Entry, offerByCells, cellsAfter}
+use Rattle.rules.specs.Answer.{Answer, outcome}
 use Rattle.table_cells.specs.Rows.{outcomeNumber}
 use borrow.Author.Needs.{needs}
 use Rattle.capi.proofs.port_table.castanetash_offer.Statement.{statement}
 use Rattle.capi.proofs.port_table.castanetash_offer.Tie as tie
+
+-- an answer and the cells afterwards, where the way is known by an equation
+module _ (table bytes : List ℕ) (experiment : ℕ) where
+  abbrev entry : Way → Entry
+  entry way = record { way = way; bytes = bytes; experiment = experiment }
+
+  answered : {way asked : Way} {a : Answer (Unit {0})} {n : ℕ} → way ≡ asked → a ≡ outcome (offerByCells table (entry way)) → n ≡ outcomeNumber a → n ≡ outcomeNumber (outcome (offerByCells table (entry asked)))
+  answered same e r = r ∙ ap outcomeNumber (e ∙ ap (λ (w : Way). outcome (offerByCells table (entry w))) same)
+
+  followed : {way asked : Way} {after : List ℕ} → way ≡ asked → after ≡ cellsAfter table (entry way) → after ≡ cellsAfter table (entry asked)
+  followed same e = e ∙ ap (λ (w : Way). cellsAfter table (entry w)) same
 
 way-of-requires : tie.Need-way-of-requires
 way-of-requires c κs = search needs
@@ -24,9 +37,7 @@ returns c =
     let a = c .before .before .before .before .before .before .before .before .args in
     let way-of = c .before .before .before .before .way-of in
     let offer = c .before .before .before .offer in
-    let answer = offer .ensures .0 ∙ ap (λ (w : Way). outcome (offerByCells (a .table .now) (record { way = w; bytes = a .message .now }))) (way-of .ensures) in
-    let cells = offer .ensures .1 ∙ ap (λ (w : Way). cellsAfter (a .table .now) (record { way = w; bytes = a .message .now })) (way-of .ensures) in
-    (c .outcome-number .ensures ∙ ap outcomeNumber answer, cells)
+    (answered (a .table .now) (a .message .now) (a .experiment) (way-of .ensures) (offer .ensures .0) (c .outcome-number .ensures), followed (a .table .now) (a .message .now) (a .experiment) (way-of .ensures) (offer .ensures .1))
 
 pub castanetash-offer-spec : {M : Type 1} → statement M
 castanetash-offer-spec =
