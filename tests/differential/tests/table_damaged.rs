@@ -1,7 +1,6 @@
 //! Tables that may not be sound, and sound ones that no list of messages has made in this order. Both programs judge
 //! them alike in every call, and a refused call changes nothing.
 
-
 use differential::{dataset_cells, format_cells, offer_answer, port_cells, LentTable, Random, TableTally, NOT_SOUND};
 use yardstick::examples::SOUND;
 use yardstick::traffic::{Scene, Traffic};

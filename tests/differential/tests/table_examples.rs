@@ -1,6 +1,5 @@
 //! All programs give every answer about tables that is written out by hand.
 
-
 use differential::{dataset_cells, format_cells, offer_answer, port_cells, LentTable, TableTally, Trio, PORT_CELLS};
 use yardstick::examples::{bytes, TableStep, TABLES};
 use yardstick::traffic::compose;

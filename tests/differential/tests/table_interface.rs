@@ -1,6 +1,5 @@
 //! The edges of the table's C interface: how many cells are lent for an answer, and how the way is told.
 
-
 use differential::{
     castanetash_dataset, castanetash_format, castanetash_offer, castanetash_port, dataset_cells, format_cells,
     offer_answer, port_cells, DATASET_CELLS, FORMAT_CELLS, PORT_CELLS,

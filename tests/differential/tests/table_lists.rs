@@ -1,7 +1,6 @@
 //! Lists of messages: after every one the product, the second program's table and the reader without a table agree.
 //! The seeds are fixed, so every run compares the same lists.
 
-
 use differential::{plausible, Random, TableTally, Trio};
 use yardstick::examples::bytes;
 use yardstick::traffic::{Scene, Traffic};

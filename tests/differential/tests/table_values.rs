@@ -1,6 +1,5 @@
 //! Values by their formats: every number and kind of datasets, every size, every dataset, every exponent of a float.
 
-
 use differential::{TableTally, Trio};
 use yardstick::traffic::compose;
 use yardstick::{Form, Way};
