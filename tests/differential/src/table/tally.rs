@@ -1,6 +1,6 @@
 use std::fmt;
 
-use yardstick::{Port, Refusal, Wiring};
+use yardstick::{ExperimentTally, Port, Refusal, Wiring};
 
 /// How many numbers answers have: 0 for acceptance and the refusals.
 const NUMBERS: usize = 20;
@@ -14,6 +14,9 @@ pub struct TableTally {
     wirings: [u64; 4],
     states: [u64; 4],
     formats: u64,
+    /// Ports with an experiment number other than 0, by their state.
+    ports_with_number: [u64; 4],
+    pub(super) experiments: ExperimentTally,
 }
 
 impl TableTally {
@@ -39,7 +42,9 @@ impl TableTally {
             Wiring::Virtual { .. } => 3,
         };
         self.wirings[wiring] += 1;
-        self.states[usize::from(port.state.number())] += 1;
+        let state = usize::from(port.state.number());
+        self.states[state] += 1;
+        self.ports_with_number[state] += u64::from(port.experiment != 0);
     }
 
     /// Counts a known format.
@@ -73,6 +78,15 @@ impl TableTally {
             assert!(seen >= least, "a port's answer came {seen} times, not {least}\n{self}");
         }
     }
+
+    /// Panics unless ports with an experiment number, and whatever lists can show of such numbers, came at least `least`
+    /// times.
+    pub fn expect_experiments(&self, least: u64) {
+        for &seen in &self.ports_with_number[1..] {
+            assert!(seen >= least, "a port's number came {seen} times, not {least}\n{self}");
+        }
+        self.experiments.expect(least);
+    }
 }
 
 fn number<T>(answer: Result<T, Refusal>) -> usize {
@@ -93,11 +107,11 @@ impl fmt::Display for TableTally {
             let [absent, unjoined, joined, virtual_ports] = self.wirings;
             write!(
                 f,
-                "\nports: absent {absent}, unjoined {unjoined}, joined {joined}, virtual {virtual_ports}; states {:?}; \
-                 formats {}",
-                self.states, self.formats
+                "\nports: absent {absent}, unjoined {unjoined}, joined {joined}, virtual {virtual_ports}; states {:?}, \
+                 with a number {:?}; formats {}",
+                self.states, self.ports_with_number, self.formats
             )?;
         }
-        Ok(())
+        write!(f, "\nexperiments: {}", self.experiments)
     }
 }
