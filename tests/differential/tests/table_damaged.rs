@@ -3,8 +3,8 @@
 
 use differential::{dataset_cells, format_cells, offer_answer, port_cells, LentTable, Random, TableTally, NOT_SOUND};
 use yardstick::examples::SOUND;
-use yardstick::traffic::{experiment, Scene, Traffic};
-use yardstick::{Refusal, Table, TableCells, Way, RECORD_CELLS, TABLE_CELLS};
+use yardstick::traffic::{compose, experiment, Scene, Traffic};
+use yardstick::{Form, Refusal, Table, TableCells, Way, RECORD_CELLS, TABLE_CELLS};
 
 /// What a table is asked for and offered.
 struct Calls {
@@ -41,6 +41,9 @@ fn compare(tally: &mut TableTally, cells: &[u32], calls: &Calls) {
             name()
         );
         tally.count_handed_out(answer);
+        if let (Ok(table), Ok(dataset)) = (expected, answer) {
+            tally.count_experiment(table, &dataset);
+        }
         let mut offered = product.clone();
         let answer = expected.and_then(|table| {
             let mut table = table.clone();
@@ -98,8 +101,34 @@ fn made(seed: u64, scene: Scene, ports: usize) -> TableCells {
     table.to_cells()
 }
 
-/// Sound tables: the empty one, two of the examples, and some that messages have made, a full one among them.
-fn sound_tables() -> [TableCells; 6] {
+/// A table with a port in each state. All of them can send values, and those that were asked have a number.
+fn every_state() -> TableCells {
+    let mut table = Table::default();
+    for port in 0..4 {
+        let mut offer = |way, form, values: &[u64]| {
+            let message = compose(way, form, values, &[]);
+            let answer = table.offer(way, &message, 0x0100 + port as u16);
+            assert_eq!(answer, Ok(()), "{message:02X?}");
+        };
+        offer(Way::Up, Form::Attached, &[port, 1, 0x26, 0, 0]);
+        offer(Way::Up, Form::ValueFormat, &[port, 2, 0x80, 3, 0, 3, 0]);
+        offer(Way::Up, Form::InputFormat, &[port, 2, 5, 1]);
+        if port > 0 {
+            offer(Way::Down, Form::InputFormatSetup, &[port, 2, 5, 1]);
+        }
+        // Answered as asked, and otherwise.
+        if let 2 | 3 = port {
+            offer(Way::Up, Form::InputFormat, &[port, 2, port + 3, 1]);
+        }
+    }
+    let states = (0..4).filter_map(|port| table.port(port)).map(|it| it.state.number());
+    assert!(states.eq(0..4));
+    table.to_cells()
+}
+
+/// Sound tables: the empty one, two of the examples, some that messages have made, a full one among them, and one with
+/// every state.
+fn sound_tables() -> [TableCells; 7] {
     [
         [0; TABLE_CELLS],
         example("nothing"),
@@ -107,6 +136,7 @@ fn sound_tables() -> [TableCells; 6] {
         made(1, Scene::Crowd, 16),
         made(2, Scene::Mixed, 8),
         made(3, Scene::Pairs, 4),
+        every_state(),
     ]
 }
 
@@ -178,6 +208,7 @@ fn every_cell_changed() {
     tally.expect_handed_out([9], 50_000);
     tally.expect_handed_out([0, 17], 1000);
     tally.expect_ports(200);
+    tally.expect_numbers(50);
 }
 
 /// Experiment numbers in the cells of every record of the sound tables: any below 65536 where something was asked, 0
@@ -300,7 +331,11 @@ fn random_order_and_damage() {
         }
         let calls = Calls {
             port: table.ports().nth(random.below(16)).unwrap_or(3),
-            mode: random.below(17) as u8,
+            // Often a mode that messages name.
+            mode: match random.below(2) {
+                0 => random.one_of(&[0, 1, 2, 15]),
+                _ => random.below(17) as u8,
+            },
             number: random.below(3),
             messages: vec![messages[random.below(messages.len())].clone()],
         };
@@ -311,6 +346,7 @@ fn random_order_and_damage() {
     tally.expect_offered(10..=16, 100);
     tally.expect_handed_out([0, 9, 17], 1000);
     tally.expect_ports(500);
+    tally.expect_numbers(100);
 }
 
 /// Puts the records in another order. Each stays as it is.

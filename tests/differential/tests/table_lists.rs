@@ -82,7 +82,7 @@ fn long_lists() {
 #[test]
 fn experiments() {
     let mut tally = TableTally::default();
-    for seed in 401..=440 {
+    for seed in 401..=460 {
         let mut traffic = Traffic::new(seed, Scene::Experiments);
         let mut trio = Trio::default();
         for _ in 0..300 {

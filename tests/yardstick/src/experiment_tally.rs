@@ -92,11 +92,26 @@ impl ExperimentTally {
 
     /// Panics unless each of these came at least `least` times.
     pub fn expect(&self, least: u64) {
-        for (name, seen) in self.counts() {
-            assert!(seen >= least, "{name} came {seen} times, not {least}\n{self}");
+        self.expect_counts(&self.counts(), least);
+    }
+
+    /// Panics unless values in states 1, 2 and 3 of ports with a number came at least `least` times each.
+    pub fn expect_values(&self, least: u64) {
+        self.expect_counts(&self.counts()[..3], least);
+    }
+
+    /// Whether nothing was counted.
+    pub fn is_empty(&self) -> bool {
+        self.counts().iter().all(|&(_, seen)| seen == 0)
+    }
+
+    fn expect_counts(&self, counts: &[(&str, u64)], least: u64) {
+        for (name, seen) in counts {
+            assert!(*seen >= least, "{name} came {seen} times, not {least}\n{self}");
         }
     }
 
+    /// The values first.
     fn counts(&self) -> [(&'static str, u64); 8] {
         [
             ("values in state 2 with a number", self.as_asked),

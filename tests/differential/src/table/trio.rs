@@ -60,7 +60,7 @@ impl Trio {
             answer,
         };
         tally.count_offered(answer);
-        tally.experiments.count_offered(&mut self.gone, &offered);
+        tally.count_offered_experiment(&mut self.gone, &offered);
         touched.extend(self.named(message));
         touched.extend(before.ports().filter(|&port| self.table.port(port).is_none()));
         touched.sort_unstable();
@@ -84,7 +84,7 @@ impl Trio {
         );
         tally.count_handed_out(answer);
         if let Ok(dataset) = answer {
-            tally.experiments.count_handed_out(&self.table, &dataset);
+            tally.count_experiment(&self.table, &dataset);
         }
     }
 
