@@ -162,6 +162,25 @@ fn what_the_hour_shows() {
     assert_eq!(refusals, [14, 14, 15, 5, 5, 18, 16, 19, 5, 10, 12, 14, 15, 10]);
 }
 
+/// The records of the hour carry the number of the running experiment, and its values do in state 2 and in no other.
+#[test]
+fn experiments_of_the_hour() {
+    let log = hour();
+    let mut numbers: Vec<u16> = log
+        .chunks(LOG_RECORD)
+        .map(|record| u16::from(record[6]) + 256 * u16::from(record[7]))
+        .collect();
+    numbers.dedup();
+    assert_eq!(numbers, [0, 301, 302, 303]);
+    let mut shown = BTreeSet::new();
+    for line in lines(&log).iter().filter(|line| line.len() > 2) {
+        let [state, experiment] = [line[4], line[5]];
+        assert_eq!(state == 2, experiment != 0, "{line:?}");
+        shown.insert([state, experiment]);
+    }
+    assert_eq!(shown, [[0, 0], [1, 0], [2, 301], [2, 302], [2, 303], [3, 0]].into());
+}
+
 /// Between a 41 and its 47 the values of motor A are in the old mode, in state 1 and without an experiment number, both
 /// times; before and after they are in state 2 and have that of the experiment.
 #[test]
