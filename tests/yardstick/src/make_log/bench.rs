@@ -260,7 +260,7 @@ impl Bench {
                 message[last..].copy_from_slice(&[0xC0, 0x7F]);
             }
         }
-        self.push_value(Some(message));
+        self.push(Way::Up, message);
     }
 
     fn value(&mut self, index: usize) {
