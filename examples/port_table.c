@@ -1,4 +1,5 @@
-/* Follows a port from its attachment to its first value, and shows what that value says. */
+/* Follows a port from its attachment to its first value, and shows what that value says and which experiment asked for
+ * it. */
 
 #include <stdio.h>
 
@@ -18,6 +19,9 @@ static const struct message messages[] = {
     {CASTANETASH_DOWN, {0x0A, 0x00, 0x41, 0x00, 0x02, 0x01, 0x00, 0x00, 0x00, 0x01}},
     {CASTANETASH_UP, {0x0A, 0x00, 0x47, 0x00, 0x02, 0x01, 0x00, 0x00, 0x00, 0x01}}};
 
+/* The number of the running experiment. */
+static const uint16_t experiment = 7;
+
 static const uint8_t value[] = {0x08, 0x00, 0x45, 0x00, 0x05, 0x00, 0x00, 0x00};
 
 int main(void)
@@ -29,7 +33,8 @@ int main(void)
 
     castanetash_empty(table, CASTANETASH_TABLE);
     for (i = 0; i < sizeof messages / sizeof messages[0]; i++) {
-        answer = castanetash_offer(table, CASTANETASH_TABLE, messages[i].bytes, messages[i].bytes[0], messages[i].way);
+        answer = castanetash_offer(table, CASTANETASH_TABLE, messages[i].bytes, messages[i].bytes[0], messages[i].way,
+                                   experiment);
         if (CASTANETASH_OFFER_REFUSAL(answer) != 0) {
             printf("refusal %u, place %u\n", (unsigned)CASTANETASH_OFFER_REFUSAL(answer),
                    (unsigned)CASTANETASH_OFFER_PLACE(answer));
@@ -45,6 +50,7 @@ int main(void)
            (unsigned)cells[CASTANETASH_FORMAT_CELL_KIND]);
     castanetash_dataset(table, CASTANETASH_TABLE, value, sizeof value, CASTANETASH_UP, 0, cells,
                         CASTANETASH_PORT_CELLS);
-    printf("dataset 0: %u\n", (unsigned)cells[CASTANETASH_DATASET_CELL_VALUE]);
+    printf("dataset 0: %u, experiment %u\n", (unsigned)cells[CASTANETASH_DATASET_CELL_VALUE],
+           (unsigned)cells[CASTANETASH_DATASET_CELL_EXPERIMENT]);
     return 0;
 }

@@ -1,4 +1,5 @@
-//! Follows a port from its attachment to its first value, and shows what that value says.
+//! Follows a port from its attachment to its first value, and shows what that value says and which experiment asked for
+//! it.
 
 use std::process::ExitCode;
 
@@ -6,7 +7,14 @@ use std::process::ExitCode;
 extern "C" {
     fn castanetash_empty(table: *mut u32, table_len: usize) -> u64;
 
-    fn castanetash_offer(table: *mut u32, table_len: usize, message: *const u8, message_len: usize, way: u8) -> u64;
+    fn castanetash_offer(
+        table: *mut u32,
+        table_len: usize,
+        message: *const u8,
+        message_len: usize,
+        way: u8,
+        experiment: u16,
+    ) -> u64;
 
     fn castanetash_dataset(
         table: *const u32,
@@ -34,12 +42,15 @@ extern "C" {
 const DOWN: u8 = 0;
 const UP: u8 = 1;
 
+/// The number of the running experiment.
+const EXPERIMENT: u16 = 7;
+
 /// A port table for one hub.
-struct Table([u32; 448]);
+struct Table([u32; 464]);
 
 impl Table {
     fn empty() -> Table {
-        let mut table = [0; 448];
+        let mut table = [0; 464];
         // SAFETY: the pointer comes from an array of the length passed with it, and the callee doesn't keep it.
         unsafe { castanetash_empty(table.as_mut_ptr(), table.len()) };
         Table(table)
@@ -49,18 +60,26 @@ impl Table {
     fn offer(&mut self, way: u8, message: &[u8]) -> Result<(), (u64, u64)> {
         let Table(table) = self;
         // SAFETY: each pointer comes from a slice of the length passed with it, and the callee keeps none of them.
-        let answer =
-            unsafe { castanetash_offer(table.as_mut_ptr(), table.len(), message.as_ptr(), message.len(), way) };
+        let answer = unsafe {
+            castanetash_offer(
+                table.as_mut_ptr(),
+                table.len(),
+                message.as_ptr(),
+                message.len(),
+                way,
+                EXPERIMENT,
+            )
+        };
         match answer >> 32 {
             0 => Ok(()),
             number => Err((number, answer & 0xFFFF_FFFF)),
         }
     }
 
-    /// Refusal number, place, kind of value, value, port, mode, state.
-    fn dataset(&self, way: u8, message: &[u8], number: usize) -> [u64; 7] {
+    /// Refusal number, place, kind of value, value, port, mode, state, experiment number.
+    fn dataset(&self, way: u8, message: &[u8], number: usize) -> [u64; 8] {
         let Table(table) = self;
-        let mut cells = [0; 7];
+        let mut cells = [0; 8];
         // SAFETY: each pointer comes from a slice of the length passed with it, and the callee keeps none of them.
         unsafe {
             castanetash_dataset(
@@ -77,10 +96,11 @@ impl Table {
         cells
     }
 
-    /// Refusal number, wiring, device, partner, second member, state, the setup asked for and the one answered.
-    fn port(&self, port: u8) -> [u64; 14] {
+    /// Refusal number, wiring, device, partner, second member, state, the setup asked for, the one answered, and the
+    /// experiment number of the one asked for.
+    fn port(&self, port: u8) -> [u64; 15] {
         let Table(table) = self;
-        let mut cells = [0; 14];
+        let mut cells = [0; 15];
         // SAFETY: each pointer comes from a slice of the length passed with it, and the callee keeps none of them.
         unsafe { castanetash_port(table.as_ptr(), table.len(), port, cells.as_mut_ptr(), cells.len()) };
         cells
@@ -111,7 +131,7 @@ fn follow() -> Result<(), (u64, u64)> {
     let format = table.format(0, 2);
     println!("mode 2: datasets {}, kind {}", format[2], format[3]);
     let dataset = table.dataset(UP, b"\x08\x00\x45\x00\x05\x00\x00\x00", 0);
-    println!("dataset 0: {}", dataset[3]);
+    println!("dataset 0: {}, experiment {}", dataset[3], dataset[7]);
     Ok(())
 }
 

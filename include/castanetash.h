@@ -114,14 +114,18 @@ uint64_t castanetash_write(const uint64_t *cells, size_t cells_len, uint8_t way,
  *   13 all sixteen records are in use       18 a float dataset is an infinity or a NaN
  *   14 the port has no mode yet
  */
-#define CASTANETASH_TABLE 448
+#define CASTANETASH_TABLE 464
 
 /* Makes a table an empty one, whatever it was, and returns 0. Another length is 9 * 2^32, and nothing changes. */
 uint64_t castanetash_empty(uint32_t *table, size_t table_len);
 
-/* Offers a message to a table. Accepted: the table is changed as the message says, and 0 returned. Refused: returns the
- * refusal number times 2^32 plus the place, and nothing changes. */
-uint64_t castanetash_offer(uint32_t *table, size_t table_len, const uint8_t *message, size_t message_len, uint8_t way);
+/* Offers a message to a table, with the number of the experiment that it belongs to. Accepted: the table is changed as
+ * the message says, and 0 returned. Refused: returns the refusal number times 2^32 plus the place, and nothing changes.
+ *
+ * A port keeps the experiment number of its latest accepted 41 since it was attached, 0 before any. The number of any
+ * other message, and of a refused one, leaves no trace. */
+uint64_t castanetash_offer(uint32_t *table, size_t table_len, const uint8_t *message, size_t message_len, uint8_t way,
+                           uint16_t experiment);
 
 /* The two parts of a refusal that castanetash_offer returned. The number is 0 if the message was accepted. */
 #define CASTANETASH_OFFER_REFUSAL(answer) ((uint32_t)((answer) >> 32))
@@ -136,9 +140,10 @@ enum castanetash_state {
 };
 
 /* Hands out one dataset of a 45, numbered from 0. The message is judged as an offered one, and changes nothing; an
- * accepted message that is no 45 has no datasets. Fills the first 7 cells and returns 7; where there are fewer, it
- * changes none and returns 0. */
-#define CASTANETASH_DATASET_CELLS 7
+ * accepted message that is no 45 has no datasets. A value that was measured as asked carries the number of the
+ * experiment that asked for it, and no other value carries one. Fills the first 8 cells and returns 8; where there are
+ * fewer, it changes none and returns 0. */
+#define CASTANETASH_DATASET_CELLS 8
 
 enum castanetash_dataset_cell {
     CASTANETASH_DATASET_CELL_REFUSAL = 0, /* refusal number, 0 if handed out; unless 0, the cells from 2 on are 0 */
@@ -147,15 +152,16 @@ enum castanetash_dataset_cell {
     CASTANETASH_DATASET_CELL_VALUE = 3,   /* the number, a float as its 32 bits */
     CASTANETASH_DATASET_CELL_PORT = 4,
     CASTANETASH_DATASET_CELL_MODE = 5,
-    CASTANETASH_DATASET_CELL_STATE = 6
+    CASTANETASH_DATASET_CELL_STATE = 6,
+    CASTANETASH_DATASET_CELL_EXPERIMENT = 7 /* the port's experiment number, 0 unless the state is 2 */
 };
 
 size_t castanetash_dataset(const uint32_t *table, size_t table_len, const uint8_t *message, size_t message_len,
                            uint8_t way, size_t number, uint64_t *cells, size_t cells_len);
 
-/* What is known about a port. Fills the first 14 cells and returns 14; where there are fewer, it changes none and
+/* What is known about a port. Fills the first 15 cells and returns 15; where there are fewer, it changes none and
  * returns 0. What isn't known is 0. */
-#define CASTANETASH_PORT_CELLS 14
+#define CASTANETASH_PORT_CELLS 15
 
 enum castanetash_port_cell {
     CASTANETASH_PORT_CELL_REFUSAL = 0, /* 9 or 0 */
@@ -171,7 +177,8 @@ enum castanetash_port_cell {
     CASTANETASH_PORT_CELL_ANSWERED = 10, /* 1 if there was a 47, whose mode, delta and notify follow */
     CASTANETASH_PORT_CELL_ANSWERED_MODE = 11,
     CASTANETASH_PORT_CELL_ANSWERED_DELTA = 12,
-    CASTANETASH_PORT_CELL_ANSWERED_NOTIFY = 13
+    CASTANETASH_PORT_CELL_ANSWERED_NOTIFY = 13,
+    CASTANETASH_PORT_CELL_EXPERIMENT = 14 /* that of the latest 41 since the attachment, 0 before any */
 };
 
 enum castanetash_wiring {
@@ -199,14 +206,15 @@ enum castanetash_format_cell {
 size_t castanetash_format(const uint32_t *table, size_t table_len, uint8_t port, uint8_t mode, uint64_t *cells,
                           size_t cells_len);
 
-/* The cells of a table: sixteen records of 28. A new record takes the lowest free place, and a free place is zeros.
+/* The cells of a table: sixteen records of 29. A new record takes the lowest free place, and a free place is zeros.
  *   0      0 free, else one of enum castanetash_wiring
  *   1, 2   port, device
  *   3, 4   partner and second member, as castanetash_port gives them
  *   5      state
  *   6..8   the latest 41: mode + 1, delta, notify; zeros if there was none
- *   9..11  the latest 47: mode + 1, delta, notify; zeros if there was none
- *   12..27 the formats of modes 0 to 15: datasets + 2^8 * kind + 2^16 * figures + 2^24 * decimals, 0 if not known
+ *   9      the experiment number of the latest 41; 0 if there was none
+ *   10..12 the latest 47: mode + 1, delta, notify; zeros if there was none
+ *   13..28 the formats of modes 0 to 15: datasets + 2^8 * kind + 2^16 * figures + 2^24 * decimals, 0 if not known
  */
 
 #ifdef __cplusplus

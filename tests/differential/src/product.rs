@@ -30,6 +30,7 @@ mod interface {
             message: *const u8,
             message_len: usize,
             way: u8,
+            experiment: u16,
         ) -> u64;
 
         pub fn castanetash_dataset(
@@ -108,12 +109,22 @@ pub fn castanetash_empty(table: &mut [u32]) -> u64 {
     unsafe { interface::castanetash_empty(table.as_mut_ptr(), table.len()) }
 }
 
-/// Offers a message to a table, as the product's C interface does it. Way 0 is down, any other up.
+/// Offers a message with its experiment number to a table, as the product's C interface does it. Way 0 is down, any
+/// other up.
 #[allow(unsafe_code)]
-pub fn castanetash_offer(table: &mut [u32], message: &[u8], way: u8) -> u64 {
+pub fn castanetash_offer(table: &mut [u32], message: &[u8], way: u8, experiment: u16) -> u64 {
     // SAFETY: each pointer comes from a slice of the length passed with it; the callee keeps neither pointer, reads
     // only the table and the message and writes only the table.
-    unsafe { interface::castanetash_offer(table.as_mut_ptr(), table.len(), message.as_ptr(), message.len(), way) }
+    unsafe {
+        interface::castanetash_offer(
+            table.as_mut_ptr(),
+            table.len(),
+            message.as_ptr(),
+            message.len(),
+            way,
+            experiment,
+        )
+    }
 }
 
 /// Hands out a dataset, as the product's C interface does it. Way 0 is down, any other up. The table is lent as one

@@ -1,12 +1,13 @@
 //! Programs in C and in Rust that call the product: the examples are built, run and held to what they have to print.
-//! The header is held to the forms' numbers and compiles as C99 and as C++.
+//! The header is held to the forms' numbers and to the numbers of cells, and compiles as C99 and as C++.
 
 use std::env;
 use std::fs;
 use std::path::{Path, PathBuf};
 use std::process::{Command, Output};
 
-use yardstick::Form;
+use differential::{DATASET_CELLS, FORMAT_CELLS, PORT_CELLS};
+use yardstick::{Form, TABLE_CELLS};
 
 /// The examples, each in C and in Rust, with what they have to print.
 const EXAMPLES: [(&str, &str); 2] = [
@@ -16,7 +17,7 @@ const EXAMPLES: [(&str, &str); 2] = [
     ),
     (
         "port_table",
-        "port 0: device 38, state 2\nmode 2: datasets 1, kind 2\ndataset 0: 5\n",
+        "port 0: device 38, state 2\nmode 2: datasets 1, kind 2\ndataset 0: 5, experiment 7\n",
     ),
 ];
 
@@ -146,4 +147,24 @@ fn header_has_every_form() {
         assert_eq!(number, form.number().to_string(), "{name}");
     }
     assert_eq!(numbered.next(), None, "the header has more forms");
+}
+
+/// How many cells a table and the answers about it have, and where the experiment number stands in them.
+#[test]
+fn header_has_the_numbers_of_cells() {
+    let header = fs::read_to_string(root().join("include/castanetash.h")).expect("the header");
+    for (name, number) in [
+        ("#define CASTANETASH_TABLE ", TABLE_CELLS),
+        ("#define CASTANETASH_DATASET_CELLS ", DATASET_CELLS),
+        ("#define CASTANETASH_PORT_CELLS ", PORT_CELLS),
+        ("#define CASTANETASH_FORMAT_CELLS ", FORMAT_CELLS),
+        ("CASTANETASH_DATASET_CELL_EXPERIMENT = ", DATASET_CELLS - 1),
+        ("CASTANETASH_PORT_CELL_EXPERIMENT = ", PORT_CELLS - 1),
+    ] {
+        let (_, rest) = header
+            .split_once(name)
+            .unwrap_or_else(|| panic!("{name}isn't in the header"));
+        let in_header: String = rest.chars().take_while(char::is_ascii_digit).collect();
+        assert_eq!(in_header, number.to_string(), "{name}");
+    }
 }

@@ -161,7 +161,16 @@ fn help() {
     assert!(text.ends_with('\n'));
     assert!(text.is_ascii());
     assert!(text.lines().all(|line| line.len() < 80));
-    for word in ["136 bytes", "port", "mode", "state", "datasets", "totals", "incomplete"] {
+    for word in [
+        "136 bytes",
+        "port",
+        "mode",
+        "state",
+        "experiment",
+        "datasets",
+        "totals",
+        "incomplete",
+    ] {
         assert!(text.contains(word), "nothing about {word}");
     }
     let mut program = logread();

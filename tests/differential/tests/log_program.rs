@@ -6,8 +6,9 @@ use std::process::Output;
 use std::thread;
 
 use differential::{logread, run, wanted, Random};
-use yardstick::examples::bytes;
+use yardstick::examples::{bytes, LOGS};
 use yardstick::make_log::{bench_log, every_log, hour_log};
+use yardstick::traffic::experiment;
 use yardstick::{log_record, Way, LOG_RECORD};
 
 /// What the product prints of a log that comes in pieces of these sizes, over and over.
@@ -36,11 +37,14 @@ fn printed(log: &[u8]) -> Output {
     printed_in_pieces(log, &[log.len().max(1)])
 }
 
-/// Counts lines by their refusal.
+/// Counts lines by their refusal, and values.
 #[derive(Default)]
 struct Lines {
     by_refusal: [u64; 20],
     values: u64,
+    /// Values by their state, and those with an experiment number other than 0.
+    by_state: [u64; 4],
+    with_number: u64,
 }
 
 impl Lines {
@@ -49,14 +53,18 @@ impl Lines {
         for line in text.lines().filter(|line| !line.starts_with("total")) {
             let numbers: Vec<usize> = line.split(' ').map(|n| n.parse().expect("a number")).collect();
             self.by_refusal[numbers[1]] += 1;
-            self.values += u64::from(numbers.len() > 2);
+            if numbers.len() > 2 {
+                self.values += 1;
+                self.by_state[numbers[4]] += 1;
+                self.with_number += u64::from(numbers[5] != 0);
+            }
         }
     }
 
     fn print(&self, name: &str) {
         println!(
-            "{name}: lines by refusal {:?}, with values {}",
-            self.by_refusal, self.values
+            "{name}: lines by refusal {:?}, with values {}, by state {:?}, with a number {}",
+            self.by_refusal, self.values, self.by_state, self.with_number
         );
     }
 }
@@ -79,28 +87,17 @@ fn compare(log: &[u8], lines: &mut Lines, what: &str) {
 }
 
 #[test]
-fn example() {
-    let messages = [
-        (Way::Up, "0F 00 04 00 01 26 00 00 00 00 10 00 00 00 10"),
-        (Way::Up, "0A 00 44 00 02 80 01 02 04 00"),
-        (Way::Up, "08 00 45 00 05 00 00 00"),
-        (Way::Down, "0A 00 41 00 02 01 00 00 00 01"),
-        (Way::Up, "0A 00 47 00 02 01 00 00 00 01"),
-        (Way::Up, "08 00 45 00 05 00 00 00"),
-    ];
-    let log: Vec<u8> = messages
-        .iter()
-        .flat_map(|(way, message)| log_record(7, *way, &bytes(message)))
-        .collect();
-    let output = printed(&log);
-    assert_eq!(
-        String::from_utf8_lossy(&output.stdout),
-        "1 0\n2 0\n3 14\n4 0\n5 0\n6 0 0 2 2 5\ntotal 6 refused 1\n"
-    );
-    assert_eq!(String::from_utf8_lossy(&output.stderr), "");
-    let output = printed(&[]);
-    assert_eq!(String::from_utf8_lossy(&output.stdout), "total 0 refused 0\n");
-    assert_eq!(String::from_utf8_lossy(&output.stderr), "");
+fn examples() {
+    for example in LOGS {
+        let output = printed(&example.log());
+        assert_eq!(
+            String::from_utf8_lossy(&output.stdout),
+            example.lines,
+            "{}",
+            example.name
+        );
+        assert_eq!(String::from_utf8_lossy(&output.stderr), "", "{}", example.name);
+    }
 }
 
 #[test]
@@ -110,6 +107,7 @@ fn hour() {
     let mut lines = Lines::default();
     compare(&log, &mut lines, "hour");
     lines.print("hour");
+    assert!(lines.with_number > 50);
 }
 
 #[test]
@@ -129,6 +127,8 @@ fn made_logs() {
         assert!(lines.by_refusal[refusal] > 10, "refusal {refusal} is seldom");
     }
     assert!(lines.values > 1000);
+    assert!(lines.by_state[1] > 100 && lines.by_state[3] > 100);
+    assert!(lines.with_number > 1000);
 }
 
 #[test]
@@ -144,7 +144,7 @@ fn last_pieces() {
 
 #[test]
 fn malformed_records() {
-    let good = log_record(9, Way::Up, &bytes("05 00 04 00 00"));
+    let good = log_record(9, Way::Up, &bytes("05 00 04 00 00"), 0);
     let mut log = Vec::new();
     for place in 0..LOG_RECORD {
         for value in [0, 1, 2, 4, 5, 126, 127, 128, 129, 255] {
@@ -165,6 +165,78 @@ fn malformed_records() {
     compare(&log, &mut lines, "malformed");
     lines.print("malformed records");
     assert!(lines.by_refusal[19] > 1000);
+}
+
+/// Bytes 5, 6 and 7 of the records of made logs are any: 19 looks at byte 5 alone, and 6 and 7 are the number.
+#[test]
+fn random_bytes_before_the_message() {
+    let mut random = Random::new(61);
+    let mut lines = Lines::default();
+    for seed in 61..69 {
+        let mut log = Vec::new();
+        if seed % 2 == 0 {
+            bench_log(seed, 2000, &mut log).expect("writing to memory");
+        } else {
+            every_log(seed, 2000, &mut log).expect("writing to memory");
+        }
+        for record in log.chunks_exact_mut(LOG_RECORD) {
+            record[5] = if random.once_in(16) { random.byte() } else { 0 };
+            record[6] = random.byte();
+            record[7] = random.byte();
+        }
+        compare(&log, &mut lines, "random bytes before the message");
+    }
+    lines.print("random bytes before the message");
+    assert!(lines.by_refusal[19] > 500);
+    assert!(lines.with_number > 1000);
+}
+
+/// What the product prints, as numbers, without the totals.
+fn numbers(log: &[u8]) -> Vec<Vec<u64>> {
+    let text = String::from_utf8(printed(log).stdout).expect("lines are text");
+    let numbers = |line: &str| line.split(' ').map(|it| it.parse().expect("a number")).collect();
+    let is_line = |line: &&str| !line.starts_with("total");
+    text.lines().filter(is_line).map(numbers).collect()
+}
+
+/// Where every number of a log is 0, every value's is. With other numbers the lines are the same but for the numbers of
+/// values in state 2.
+#[test]
+fn numbers_change_values_in_state_2_alone() {
+    let mut random = Random::new(62);
+    let [mut in_state_2, mut others, mut changed] = [0, 0, 0];
+    for seed in 71..77 {
+        let mut log = Vec::new();
+        if seed % 2 == 0 {
+            bench_log(seed, 3000, &mut log).expect("writing to memory");
+        } else {
+            every_log(seed, 3000, &mut log).expect("writing to memory");
+        }
+        let mut without = log.clone();
+        for (record, without) in log
+            .chunks_exact_mut(LOG_RECORD)
+            .zip(without.chunks_exact_mut(LOG_RECORD))
+        {
+            record[6..8].copy_from_slice(&experiment(&mut random).to_le_bytes());
+            without[6..8].fill(0);
+        }
+        let [lines, without] = [numbers(&log), numbers(&without)];
+        assert_eq!(lines.len(), without.len());
+        for (mut line, without) in lines.into_iter().zip(without) {
+            if line.len() > 2 && line[4] == 2 {
+                in_state_2 += 1;
+                changed += u64::from(line[5] != 0);
+                line[5] = 0;
+            } else {
+                others += u64::from(line.len() > 2);
+            }
+            // In states 0, 1 and 3 the number is 0 in both.
+            assert!(without.len() == 2 || without[5] == 0, "{without:?}");
+            assert_eq!(line, without);
+        }
+    }
+    println!("{in_state_2} values in state 2, {changed} of them with a number, {others} other values");
+    assert!(changed > 3000 && others > 500);
 }
 
 #[test]

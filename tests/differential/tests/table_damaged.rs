@@ -1,18 +1,17 @@
 //! Tables that may not be sound, and sound ones that no list of messages has made in this order. Both programs judge
 //! them alike in every call, and a refused call changes nothing.
 
-
 use differential::{dataset_cells, format_cells, offer_answer, port_cells, LentTable, Random, TableTally, NOT_SOUND};
 use yardstick::examples::SOUND;
-use yardstick::traffic::{Scene, Traffic};
-use yardstick::{Refusal, Table, TableCells, Way, RECORD_CELLS, TABLE_CELLS};
+use yardstick::traffic::{compose, experiment, Scene, Traffic};
+use yardstick::{Form, Refusal, Table, TableCells, Way, RECORD_CELLS, TABLE_CELLS};
 
 /// What a table is asked for and offered.
 struct Calls {
     port: u8,
     mode: u8,
     number: usize,
-    messages: Vec<(Way, Vec<u8>)>,
+    messages: Vec<(Way, Vec<u8>, u16)>,
 }
 
 /// Makes every call of the product on a table, and compares it with the second program.
@@ -32,8 +31,8 @@ fn compare(tally: &mut TableTally, cells: &[u32], calls: &Calls) {
     if let Ok(Some(_)) = answer {
         tally.count_format();
     }
-    for (way, message) in &calls.messages {
-        let name = || format!("{message:02X?} {way:?} with {cells:?}");
+    for (way, message, experiment) in &calls.messages {
+        let name = || format!("{message:02X?} {way:?} in experiment {experiment} with {cells:?}");
         let answer = expected.and_then(|table| table.hand_out(*way, message, number));
         assert_eq!(
             product.dataset(*way, message, number),
@@ -42,13 +41,16 @@ fn compare(tally: &mut TableTally, cells: &[u32], calls: &Calls) {
             name()
         );
         tally.count_handed_out(answer);
+        if let (Ok(table), Ok(dataset)) = (expected, answer) {
+            tally.count_experiment(table, &dataset);
+        }
         let mut offered = product.clone();
         let answer = expected.and_then(|table| {
             let mut table = table.clone();
-            table.offer(*way, message)?;
+            table.offer(*way, message, *experiment)?;
             Ok(table)
         });
-        let by_product = offered.offer(*way, message);
+        let by_product = offered.offer(*way, message, *experiment);
         match answer {
             Ok(table) => {
                 assert_eq!(by_product, 0, "{}", name());
@@ -65,14 +67,17 @@ fn compare(tally: &mut TableTally, cells: &[u32], calls: &Calls) {
 }
 
 /// A table, and messages that are guided by it.
-fn table_and_messages(seed: u64, cells: &[u32]) -> (Table, Vec<(Way, Vec<u8>)>) {
+fn table_and_messages(seed: u64, cells: &[u32]) -> (Table, Vec<(Way, Vec<u8>, u16)>) {
     let table = Table::from_cells(cells).expect("a sound table");
     let mut traffic = Traffic::over(seed, table.ports());
-    let mut messages: Vec<(Way, Vec<u8>)> = (0..40).map(|_| traffic.next(&table)).collect();
-    messages.extend((0..20).map(|_| traffic.value(&table)));
-    messages.push((Way::Up, vec![0x04, 0x00, 0x02, 0x31]));
-    messages.push((Way::Down, vec![0x03, 0x00, 0x12]));
-    messages.push((Way::Down, vec![]));
+    let mut messages: Vec<(Way, Vec<u8>, u16)> = (0..40).map(|_| traffic.next(&table)).collect();
+    let mut random = Random::new(!seed);
+    let mut others: Vec<(Way, Vec<u8>)> = (0..20).map(|_| traffic.value(&table)).collect();
+    others.push((Way::Up, vec![0x04, 0x00, 0x02, 0x31]));
+    others.push((Way::Down, vec![0x03, 0x00, 0x12]));
+    others.push((Way::Down, vec![]));
+    let with_number = |(way, message)| (way, message, experiment(&mut random));
+    messages.extend(others.into_iter().map(with_number));
     (table, messages)
 }
 
@@ -88,16 +93,42 @@ fn made(seed: u64, scene: Scene, ports: usize) -> TableCells {
     let mut table = Table::default();
     let mut messages = 0;
     while messages < 300 || table.ports().count() < ports {
-        let (way, message) = traffic.next(&table);
+        let (way, message, experiment) = traffic.next(&table);
         // A refused message changes nothing.
-        let _ = table.offer(way, &message);
+        let _ = table.offer(way, &message, experiment);
         messages += 1;
     }
     table.to_cells()
 }
 
-/// Sound tables: the empty one, two of the examples, and some that messages have made, a full one among them.
-fn sound_tables() -> [TableCells; 6] {
+/// A table with a port in each state. All of them can send values, and those that were asked have a number.
+fn every_state() -> TableCells {
+    let mut table = Table::default();
+    for port in 0..4 {
+        let mut offer = |way, form, values: &[u64]| {
+            let message = compose(way, form, values, &[]);
+            let answer = table.offer(way, &message, 0x0100 + port as u16);
+            assert_eq!(answer, Ok(()), "{message:02X?}");
+        };
+        offer(Way::Up, Form::Attached, &[port, 1, 0x26, 0, 0]);
+        offer(Way::Up, Form::ValueFormat, &[port, 2, 0x80, 3, 0, 3, 0]);
+        offer(Way::Up, Form::InputFormat, &[port, 2, 5, 1]);
+        if port > 0 {
+            offer(Way::Down, Form::InputFormatSetup, &[port, 2, 5, 1]);
+        }
+        // Answered as asked, and otherwise.
+        if let 2 | 3 = port {
+            offer(Way::Up, Form::InputFormat, &[port, 2, port + 3, 1]);
+        }
+    }
+    let states = (0..4).filter_map(|port| table.port(port)).map(|it| it.state.number());
+    assert!(states.eq(0..4));
+    table.to_cells()
+}
+
+/// Sound tables: the empty one, two of the examples, some that messages have made, a full one among them, and one with
+/// every state.
+fn sound_tables() -> [TableCells; 7] {
     [
         [0; TABLE_CELLS],
         example("nothing"),
@@ -105,6 +136,7 @@ fn sound_tables() -> [TableCells; 6] {
         made(1, Scene::Crowd, 16),
         made(2, Scene::Mixed, 8),
         made(3, Scene::Pairs, 4),
+        every_state(),
     ]
 }
 
@@ -176,6 +208,62 @@ fn every_cell_changed() {
     tally.expect_handed_out([9], 50_000);
     tally.expect_handed_out([0, 17], 1000);
     tally.expect_ports(200);
+    tally.expect_numbers(50);
+}
+
+/// Experiment numbers in the cells of every record of the sound tables: any below 65536 where something was asked, 0
+/// elsewhere.
+#[test]
+fn experiment_numbers() {
+    /// The cell of a record that has the number, and the one that says whether something was asked.
+    const NUMBER: usize = 9;
+    const ASKED: usize = 6;
+    let [mut sound, mut unsound] = [0, 0];
+    for mut cells in sound_tables() {
+        for place in 0..TABLE_CELLS / RECORD_CELLS {
+            let start = place * RECORD_CELLS;
+            let old = cells[start + NUMBER];
+            let was_asked = cells[start + ASKED] != 0;
+            for number in [
+                0,
+                1,
+                255,
+                256,
+                0x0102,
+                65535,
+                65536,
+                65537,
+                0x0102_0000,
+                1 << 31,
+                u32::MAX,
+            ] {
+                cells[start + NUMBER] = number;
+                let is_sound = number == 0 || was_asked && number < 65536;
+                let expected = if is_sound { 0 } else { 9 };
+                let name = format!("number {number} at place {place} of {cells:?}");
+                assert_eq!(Table::from_cells(&cells).is_ok(), is_sound, "{name}");
+                let mut product = LentTable::new(&cells);
+                let answer = product.port(cells[start + 1] as u8);
+                assert_eq!(answer[0], expected, "{name}");
+                if is_sound && cells[start] != 0 {
+                    assert_eq!(answer[14], number.into(), "{name}");
+                }
+                assert_eq!(product.format(0, 0)[0], expected, "{name}");
+                assert_eq!(
+                    product.offer(Way::Down, &[0x03, 0x00, 0x12], 1),
+                    expected << 32,
+                    "{name}"
+                );
+                let dataset = product.dataset(Way::Down, &[0x03, 0x00, 0x12], 0);
+                assert_eq!(dataset[0], if is_sound { 17 } else { 9 }, "{name}");
+                sound += u64::from(is_sound && number != 0);
+                unsound += u64::from(!is_sound);
+            }
+            cells[start + NUMBER] = old;
+        }
+    }
+    println!("experiment numbers: {sound} sound and not 0, {unsound} unsound");
+    assert!(sound >= 100 && unsound >= 500);
 }
 
 /// The tables that are sound or not by hand, in every call.
@@ -189,7 +277,12 @@ fn sound_examples() {
         let expected = if example.is_sound { 0 } else { 9 };
         assert_eq!(product.port(1)[0], expected, "{}", example.name);
         assert_eq!(product.format(1, 0)[0], expected, "{}", example.name);
-        assert_eq!(product.offer(Way::Down, &nothing), expected << 32, "{}", example.name);
+        assert_eq!(
+            product.offer(Way::Down, &nothing, 1),
+            expected << 32,
+            "{}",
+            example.name
+        );
         let dataset = product.dataset(Way::Down, &nothing, 0);
         assert_eq!(dataset[0], if example.is_sound { 17 } else { 9 }, "{}", example.name);
         let calls = |port| Calls {
@@ -197,14 +290,20 @@ fn sound_examples() {
             mode: 1,
             number: 0,
             messages: vec![
-                (Way::Up, vec![0x05, 0x00, 0x04, port, 0x00]),
-                (Way::Up, vec![0x09, 0x00, 0x04, 0x20, 0x02, 0x00, 0x00, port, 11]),
+                (Way::Up, vec![0x05, 0x00, 0x04, port, 0x00], 2),
+                (Way::Up, vec![0x09, 0x00, 0x04, 0x20, 0x02, 0x00, 0x00, port, 11], 3),
                 (
                     Way::Up,
                     vec![0x0A, 0x00, 0x47, port, 0x02, 0x00, 0x00, 0x00, 0x00, 0x00],
+                    4,
                 ),
-                (Way::Up, vec![0x05, 0x00, 0x45, port, 0x02]),
-                (Way::Down, vec![0x05, 0x00, 0x61, 0x00, port]),
+                (
+                    Way::Down,
+                    vec![0x0A, 0x00, 0x41, port, 0x02, 0x00, 0x00, 0x00, 0x00, 0x00],
+                    0x0506,
+                ),
+                (Way::Up, vec![0x05, 0x00, 0x45, port, 0x02], 7),
+                (Way::Down, vec![0x05, 0x00, 0x61, 0x00, port], 8),
             ],
         };
         for port in (0..20).chain([200, 254, 255]) {
@@ -232,7 +331,11 @@ fn random_order_and_damage() {
         }
         let calls = Calls {
             port: table.ports().nth(random.below(16)).unwrap_or(3),
-            mode: random.below(17) as u8,
+            // Often a mode that messages name.
+            mode: match random.below(2) {
+                0 => random.one_of(&[0, 1, 2, 15]),
+                _ => random.below(17) as u8,
+            },
             number: random.below(3),
             messages: vec![messages[random.below(messages.len())].clone()],
         };
@@ -243,6 +346,7 @@ fn random_order_and_damage() {
     tally.expect_offered(10..=16, 100);
     tally.expect_handed_out([0, 9, 17], 1000);
     tally.expect_ports(500);
+    tally.expect_numbers(100);
 }
 
 /// Puts the records in another order. Each stays as it is.
@@ -268,7 +372,7 @@ fn harm(random: &mut Random, cells: &mut TableCells, table: &Table) {
             cells[place + cell] = cells[other + cell];
         }
         _ => {
-            let cell = place + random.one_of(&[0, 0, 1, 3, 3, 4, 5, 5, 6, 7, 8, 9, 10, 11, 12, 27]);
+            let cell = place + random.one_of(&[0, 0, 1, 3, 3, 4, 5, 5, 6, 7, 8, 9, 9, 9, 10, 11, 12, 13, 28]);
             let contents = contents(cells[cell], table);
             cells[cell] = random.one_of(&contents);
         }
@@ -279,7 +383,7 @@ fn harm(random: &mut Random, cells: &mut TableCells, table: &Table) {
 fn wrong_lengths() {
     let messages: [&[u8]; 4] = [&[], &[0x80], &[0x03, 0x00, 0x12], &[0x04, 0x00, 0x02, 0x30]];
     for content in [0, 1, u32::MAX] {
-        for length in [0, 1, 27, 28, 447, 449, 476, 896] {
+        for length in [0, 1, 28, 29, 448, 463, 465, 493, 928] {
             let cells = vec![content; length];
             let mut product = LentTable::new(&cells);
             let name = format!("{length} cells with {content}");
@@ -288,7 +392,7 @@ fn wrong_lengths() {
             assert_eq!(product.format(0, 0)[..2], [9, 0], "{name}");
             for message in messages {
                 for way in Way::BOTH {
-                    assert_eq!(product.offer(way, message), NOT_SOUND, "{name}");
+                    assert_eq!(product.offer(way, message, 1), NOT_SOUND, "{name}");
                     let refused = dataset_cells(Err(Refusal::TABLE));
                     assert_eq!(product.dataset(way, message, 0), refused, "{name}");
                 }
@@ -298,7 +402,7 @@ fn wrong_lengths() {
     }
 }
 
-/// Any 448 cells are made an empty table.
+/// Any 464 cells are made an empty table.
 #[test]
 fn empty() {
     let mut random = Random::new(12);

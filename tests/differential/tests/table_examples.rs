@@ -1,24 +1,29 @@
 //! All programs give every answer about tables that is written out by hand.
 
-
 use differential::{dataset_cells, format_cells, offer_answer, port_cells, LentTable, TableTally, Trio, PORT_CELLS};
-use yardstick::examples::{bytes, TableStep, TABLES};
+use yardstick::examples::{bytes, TableStep, EXPERIMENTS, TABLES};
 use yardstick::traffic::compose;
 use yardstick::{Form, Refusal, Way, RECORD_CELLS};
 
 #[test]
 fn table_examples() {
     let mut tally = TableTally::default();
-    for example in TABLES {
+    for example in TABLES.iter().chain(EXPERIMENTS) {
         let mut product = LentTable::empty();
         let mut trio = Trio::default();
         for step in example.steps {
             let name = format!("{}: {step:?}", example.name);
             match *step {
-                TableStep::Offer { way, message, answer } => {
+                TableStep::Offer {
+                    way,
+                    message,
+                    experiment,
+                    answer,
+                } => {
                     let message = bytes(message);
-                    assert_eq!(product.offer(way, &message), offer_answer(answer), "{name}");
-                    trio.offer(&mut tally, way, &message);
+                    let by_product = product.offer(way, &message, experiment);
+                    assert_eq!(by_product, offer_answer(answer), "{name}");
+                    trio.offer(&mut tally, way, &message, experiment);
                 }
                 TableStep::HandOut {
                     way,
@@ -45,6 +50,7 @@ fn table_examples() {
     tally.expect_offered([0, 1, 4, 5, 7, 10, 11, 12, 14, 15, 16], 1);
     tally.expect_handed_out([0, 1, 2, 3, 4, 5, 6, 7, 11, 14, 16, 17, 18], 1);
     tally.expect_ports(1);
+    tally.expect_experiments(1);
 }
 
 fn attach(port: u64) -> Vec<u8> {
@@ -61,7 +67,11 @@ fn detach(port: u64) -> Vec<u8> {
 
 /// Offers a message that goes up, which has to get the answer.
 fn expect(product: &mut LentTable, message: &[u8], answer: Result<(), Refusal>) {
-    assert_eq!(product.offer(Way::Up, message), offer_answer(answer), "{message:02X?}");
+    assert_eq!(
+        product.offer(Way::Up, message, 7),
+        offer_answer(answer),
+        "{message:02X?}"
+    );
 }
 
 #[test]
@@ -144,11 +154,13 @@ fn cells_of_a_record() {
         (Way::Up, "0A 00 44 FE 00 80 10 03 FF FE"),
         (Way::Up, "0A 00 44 FE 0F 80 01 00 02 03"),
     ];
-    for (way, message) in messages {
-        assert_eq!(product.offer(way, &bytes(message)), 0, "{message}");
+    for (index, (way, message)) in messages.into_iter().enumerate() {
+        // The 41 is the fourth.
+        let experiment = 0xABC0 + index as u16;
+        assert_eq!(product.offer(way, &bytes(message), experiment), 0, "{message}");
     }
     let mut first = [0; RECORD_CELLS];
-    first[..13].copy_from_slice(&[
+    first[..14].copy_from_slice(&[
         2,
         0xFE,
         0x1234,
@@ -158,12 +170,13 @@ fn cells_of_a_record() {
         16,
         0x0102_0304,
         1,
+        0xABC3,
         15,
         0x0506_0708,
         0,
         0xFEFF_0310,
     ]);
-    first[27] = 0x0302_0001;
+    first[28] = 0x0302_0001;
     let mut second = [0; RECORD_CELLS];
     second[..4].copy_from_slice(&[2, 7, 0x5678, 0x80]);
     let mut third = [0; RECORD_CELLS];

@@ -1,5 +1,5 @@
-//! The edges of the table's C interface: how many cells are lent for an answer, and how the way is told.
-
+//! The edges of the table's C interface: how many cells are lent for an answer, how the way is told, and every experiment
+//! number.
 
 use differential::{
     castanetash_dataset, castanetash_format, castanetash_offer, castanetash_port, dataset_cells, format_cells,
@@ -45,7 +45,7 @@ fn only_the_first_cells_change() {
     for example in SOUND {
         let mut cells = example.cells();
         // Port 2, at place 8, is in mode 0, which now has one dataset of 8 bits.
-        cells[8 * RECORD_CELLS + 12] = 1;
+        cells[8 * RECORD_CELLS + 13] = 1;
         let table = Table::from_cells(&cells);
         let table = table.as_ref().map_err(|&refusal| refusal);
         assert_eq!(table.is_ok(), example.is_sound, "{}", example.name);
@@ -82,7 +82,7 @@ fn only_the_first_cells_change() {
 fn way_0_is_down_and_any_other_up() {
     let mut cells = SOUND[0].cells();
     // Port 11, at place 14, is in mode 0, which now has one dataset of 8 bits.
-    cells[14 * RECORD_CELLS + 12] = 1;
+    cells[14 * RECORD_CELLS + 13] = 1;
     let table = Table::from_cells(&cells).expect("a sound table");
     for message in ["03 00 12", "04 00 13 00", "04 00 02 30", "05 00 45 0B 01"] {
         let message = bytes(message);
@@ -90,10 +90,10 @@ fn way_0_is_down_and_any_other_up() {
         for byte in 0..=255 {
             let way = if byte == 0 { Way::Down } else { Way::Up };
             let mut after = table.clone();
-            let answer = offer_answer(after.offer(way, &message));
+            let answer = offer_answer(after.offer(way, &message, 7));
             let mut lent = cells;
             assert_eq!(
-                castanetash_offer(&mut lent, &message, byte),
+                castanetash_offer(&mut lent, &message, byte, 7),
                 answer,
                 "{message:02X?}, way {byte}"
             );
@@ -105,5 +105,35 @@ fn way_0_is_down_and_any_other_up() {
             answers.push(answer);
         }
         assert_ne!(answers[0], answers[1], "{message:02X?} each way");
+    }
+}
+
+/// Every experiment number comes back from the table's cells, from the port and, in state 2, from the value.
+#[test]
+fn every_experiment_number() {
+    let mut cells = SOUND[0].cells();
+    // Port 11, at place 14, is in mode 0, which now has one dataset of 8 bits.
+    cells[14 * RECORD_CELLS + 13] = 1;
+    let [ask, answer, value] = [
+        "0A 00 41 0B 00 01 00 00 00 01",
+        "0A 00 47 0B 00 01 00 00 00 01",
+        "05 00 45 0B 01",
+    ]
+    .map(bytes);
+    for experiment in 0..=u16::MAX {
+        let number = u64::from(experiment);
+        let (mut port, mut dataset) = ([u64::MAX; PORT_CELLS], [u64::MAX; DATASET_CELLS]);
+        assert_eq!(castanetash_offer(&mut cells, &ask, 0, experiment), 0);
+        assert_eq!(cells[14 * RECORD_CELLS + 9], experiment.into());
+        castanetash_port(&mut cells, 11, &mut port);
+        castanetash_dataset(&mut cells, &value, 1, 0, &mut dataset);
+        assert_eq!([port[5], port[14]], [1, number], "asked with {experiment}");
+        assert_eq!(dataset, [0, 0, 0, 1, 11, 0, 1, 0], "asked with {experiment}");
+        // The number of the answer is another.
+        assert_eq!(castanetash_offer(&mut cells, &answer, 1, !experiment), 0);
+        castanetash_port(&mut cells, 11, &mut port);
+        castanetash_dataset(&mut cells, &value, 1, 0, &mut dataset);
+        assert_eq!([port[5], port[14]], [2, number], "answered to {experiment}");
+        assert_eq!(dataset, [0, 0, 0, 1, 11, 0, 2, number], "answered to {experiment}");
     }
 }

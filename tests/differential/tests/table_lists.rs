@@ -1,10 +1,9 @@
 //! Lists of messages: after every one the product, the second program's table and the reader without a table agree.
 //! The seeds are fixed, so every run compares the same lists.
 
-
 use differential::{plausible, Random, TableTally, Trio};
 use yardstick::examples::bytes;
-use yardstick::traffic::{Scene, Traffic};
+use yardstick::traffic::{experiment, Scene, Traffic};
 use yardstick::Way;
 
 /// The scene and the seed of each of `count` lists.
@@ -27,14 +26,14 @@ fn hand_out_some(trio: &mut Trio, tally: &mut TableTally, random: &mut Random, w
 #[test]
 fn short_lists() {
     let mut tally = TableTally::default();
-    for (seed, scene) in lists(1, 48) {
+    for (seed, scene) in lists(1, 60) {
         let mut random = Random::new(!seed);
         let mut traffic = Traffic::new(seed, scene);
         let mut trio = Trio::default();
         for _ in 0..80 {
-            let (way, message) = traffic.next(trio.table());
+            let (way, message, experiment) = traffic.next(trio.table());
             hand_out_some(&mut trio, &mut tally, &mut random, way, &message);
-            trio.offer(&mut tally, way, &message);
+            trio.offer(&mut tally, way, &message, experiment);
             trio.compare_ports(&mut tally, 0..=255);
         }
     }
@@ -43,6 +42,7 @@ fn short_lists() {
     tally.expect_offered(10..=16, 30);
     tally.expect_handed_out(10..=18, 30);
     tally.expect_ports(500);
+    tally.expect_experiments(20);
 }
 
 /// Longer lists, with the touched ports compared after every message, and all ports now and then. Beside each message a
@@ -57,9 +57,9 @@ fn long_lists() {
         for step in 0..300 {
             let (way, value) = traffic.value(trio.table());
             hand_out_some(&mut trio, &mut tally, &mut random, way, &value);
-            let (way, message) = traffic.next(trio.table());
+            let (way, message, experiment) = traffic.next(trio.table());
             trio.hand_out(&mut tally, way, &message, step % 3);
-            let touched = trio.offer(&mut tally, way, &message);
+            let touched = trio.offer(&mut tally, way, &message, experiment);
             trio.compare_ports(&mut tally, touched);
             if step % 100 == 99 {
                 trio.compare_ports(&mut tally, 0..=255);
@@ -74,6 +74,30 @@ fn long_lists() {
     tally.expect_handed_out(2..=7, 50);
     tally.expect_handed_out(10..=18, 1000);
     tally.expect_ports(5000);
+    tally.expect_experiments(500);
+}
+
+/// Lists in which ports are asked again and again, with other numbers each time, and are pulled and attached again. All
+/// numbers of ports and values are compared after every message.
+#[test]
+fn experiments() {
+    let mut tally = TableTally::default();
+    for seed in 401..=460 {
+        let mut traffic = Traffic::new(seed, Scene::Experiments);
+        let mut trio = Trio::default();
+        for _ in 0..300 {
+            let (way, message, experiment) = traffic.next(trio.table());
+            let mut touched = trio.offer(&mut tally, way, &message, experiment);
+            touched.extend(trio.table().ports());
+            trio.compare_ports(&mut tally, touched);
+            let (way, value) = traffic.value(trio.table());
+            trio.hand_out(&mut tally, way, &value, 0);
+        }
+    }
+    println!("experiments: {tally}");
+    tally.expect_offered([0], 5000);
+    tally.expect_handed_out([0], 3000);
+    tally.expect_experiments(300);
 }
 
 /// Messages that aren't guided by what is present. Most of them are about an absent port.
@@ -91,7 +115,7 @@ fn unguided_lists() {
                 *port &= 0x83;
             }
             trio.hand_out(&mut tally, way, &message, 0);
-            let touched = trio.offer(&mut tally, way, &message);
+            let touched = trio.offer(&mut tally, way, &message, experiment(&mut random));
             trio.compare_ports(&mut tally, touched);
         }
     }
@@ -99,33 +123,35 @@ fn unguided_lists() {
     tally.expect_offered([0, 2, 3, 4, 5, 6, 7, 10], 50);
 }
 
-/// Messages about three ports: the third may be virtual, and the first is set up.
-const FEW: [(Way, &str); 14] = [
-    (Way::Up, "0F 00 04 00 01 26 00 00 00 00 10 00 00 00 10"),
-    (Way::Up, "0F 00 04 01 01 27 00 00 00 00 10 00 00 00 10"),
-    (Way::Up, "0F 00 04 02 01 28 00 00 00 00 10 00 00 00 10"),
-    (Way::Up, "09 00 04 02 02 29 00 01 00"),
-    (Way::Up, "05 00 04 00 00"),
-    (Way::Up, "05 00 04 01 00"),
-    (Way::Up, "05 00 04 02 00"),
-    (Way::Up, "04 00 02 32"),
-    (Way::Up, "0A 00 44 00 01 80 01 00 03 00"),
-    (Way::Down, "0A 00 41 00 01 00 00 00 00 01"),
-    (Way::Up, "0A 00 47 00 01 00 00 00 00 01"),
-    (Way::Up, "0A 00 47 00 01 00 00 00 00 00"),
-    (Way::Up, "0A 00 47 00 02 00 00 00 00 01"),
-    (Way::Up, "05 00 45 00 07"),
+/// Messages about three ports: the third may be virtual, and the first is set up. Each has an experiment number of its
+/// own, and the same 41 comes with two.
+const FEW: [(Way, &str, u16); 15] = [
+    (Way::Up, "0F 00 04 00 01 26 00 00 00 00 10 00 00 00 10", 1),
+    (Way::Up, "0F 00 04 01 01 27 00 00 00 00 10 00 00 00 10", 2),
+    (Way::Up, "0F 00 04 02 01 28 00 00 00 00 10 00 00 00 10", 3),
+    (Way::Up, "09 00 04 02 02 29 00 01 00", 4),
+    (Way::Up, "05 00 04 00 00", 5),
+    (Way::Up, "05 00 04 01 00", 6),
+    (Way::Up, "05 00 04 02 00", 7),
+    (Way::Up, "04 00 02 32", 8),
+    (Way::Up, "0A 00 44 00 01 80 01 00 03 00", 9),
+    (Way::Down, "0A 00 41 00 01 00 00 00 00 01", 0x0102),
+    (Way::Down, "0A 00 41 00 01 00 00 00 00 01", 0xFFFF),
+    (Way::Up, "0A 00 47 00 01 00 00 00 00 01", 10),
+    (Way::Up, "0A 00 47 00 01 00 00 00 00 00", 11),
+    (Way::Up, "0A 00 47 00 02 00 00 00 00 01", 12),
+    (Way::Up, "05 00 45 00 07", 13),
 ];
 
 /// Offers every list of up to `length` of the messages, after those that were offered before.
-fn every_list(trio: &Trio, tally: &mut TableTally, messages: &[(Way, Vec<u8>)], length: usize) {
+fn every_list(trio: &Trio, tally: &mut TableTally, messages: &[(Way, Vec<u8>, u16)], length: usize) {
     if length == 0 {
         return;
     }
-    for (way, message) in messages {
+    for (way, message, experiment) in messages {
         let mut next = trio.clone();
         next.hand_out(tally, *way, message, 0);
-        next.offer(tally, *way, message);
+        next.offer(tally, *way, message, *experiment);
         next.compare_ports(tally, 0..=2);
         every_list(&next, tally, messages, length - 1);
     }
@@ -135,12 +161,12 @@ fn every_list(trio: &Trio, tally: &mut TableTally, messages: &[(Way, Vec<u8>)], 
 #[test]
 fn every_short_list() {
     let mut tally = TableTally::default();
-    let messages = FEW.map(|(way, message)| (way, bytes(message)));
+    let messages = FEW.map(|(way, message, experiment)| (way, bytes(message), experiment));
     let mut trio = Trio::default();
     every_list(&trio, &mut tally, &messages, 3);
     for start in [0, 1, 8, 9] {
-        let (way, message) = &messages[start];
-        trio.offer(&mut tally, *way, message);
+        let (way, message, experiment) = &messages[start];
+        trio.offer(&mut tally, *way, message, *experiment);
     }
     every_list(&trio, &mut tally, &messages, 4);
     println!("every short list: {tally}");

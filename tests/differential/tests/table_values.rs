@@ -1,12 +1,14 @@
 //! Values by their formats: every number and kind of datasets, every size, every dataset, every exponent of a float.
 
-
 use differential::{TableTally, Trio};
 use yardstick::traffic::compose;
 use yardstick::{Form, Way};
 
 const PORT: u64 = 0x3C;
 const MODE: u64 = 9;
+
+/// The number of the experiment that asked for the values.
+const EXPERIMENT: u16 = 0x0102;
 
 /// A port in its mode, as asked, with a format.
 fn with_format(tally: &mut TableTally, datasets: u64, kind: u64) -> Trio {
@@ -19,7 +21,13 @@ fn with_format(tally: &mut TableTally, datasets: u64, kind: u64) -> Trio {
         (Way::Down, Form::InputFormatSetup, &setup),
         (Way::Up, Form::InputFormat, &setup),
     ] {
-        trio.offer(tally, way, &compose(way, form, values, &[]));
+        // Other messages come with another number.
+        let experiment = if form == Form::InputFormatSetup {
+            EXPERIMENT
+        } else {
+            0x0304
+        };
+        trio.offer(tally, way, &compose(way, form, values, &[]), experiment);
     }
     trio
 }
@@ -40,7 +48,7 @@ fn every_format_and_size() {
             let mut trio = with_format(&mut tally, datasets as u64, kind as u64);
             for size in 1..=bytes.len() {
                 let message = value(&bytes[..size]);
-                trio.offer(&mut tally, Way::Up, &message);
+                trio.offer(&mut tally, Way::Up, &message, size as u16);
                 trio.hand_out(&mut tally, Way::Up, &message, 0);
                 if size != datasets * width {
                     continue;
@@ -70,7 +78,7 @@ fn every_exponent() {
             let float = (sign_and_exponent << 23 | fraction).to_le_bytes();
             for other in [1.0_f32, f32::NAN].map(f32::to_le_bytes) {
                 let message = value(&[float, other].concat());
-                trio.offer(&mut tally, Way::Up, &message);
+                trio.offer(&mut tally, Way::Up, &message, fraction as u16);
                 for number in 0..3 {
                     trio.hand_out(&mut tally, Way::Up, &message, number);
                 }
@@ -106,4 +114,37 @@ fn every_byte() {
     }
     println!("every byte: {tally}");
     tally.expect_handed_out([0], 3 * 256 * (3 + 6 + 12));
+}
+
+/// Every experiment number, carried by a value in state 2 and by none in states 1 and 3.
+#[test]
+fn every_experiment() {
+    let mut tally = TableTally::default();
+    let mut trio = with_format(&mut tally, 1, 0);
+    let setup = |way, form, delta| compose(way, form, &[PORT, MODE, delta, 1], &[]);
+    let ask = setup(Way::Down, Form::InputFormatSetup, 1);
+    let answer = setup(Way::Up, Form::InputFormat, 1);
+    let otherwise = setup(Way::Up, Form::InputFormat, 2);
+    let message = value(&[7]);
+    for experiment in 0..=u16::MAX {
+        for (way, step, number) in [
+            (Way::Down, &ask, experiment),
+            (Way::Up, &otherwise, !experiment),
+            (Way::Up, &answer, !experiment),
+        ] {
+            trio.offer(&mut tally, way, step, number);
+            trio.hand_out(&mut tally, Way::Up, &message, 0);
+        }
+        if experiment % 64 == 0 {
+            trio.compare_port(&mut tally, PORT as u8);
+        }
+        let dataset = trio.table().hand_out(Way::Up, &message, 0);
+        assert_eq!(dataset.map(|it| it.experiment), Ok(experiment));
+        // The list without a table grows with every message.
+        if experiment % 16 == 15 {
+            trio = with_format(&mut tally, 1, 0);
+        }
+    }
+    println!("every experiment: {tally}");
+    tally.expect_handed_out([0], 3 * 65536);
 }

@@ -76,6 +76,8 @@ pub struct Port {
     pub state: State,
     /// The setup last asked, by a 41.
     pub asked: Option<Setup>,
+    /// The number of the experiment that asked it, 0 before any 41.
+    pub experiment: u16,
     /// The setup last answered, by a 47.
     pub answered: Option<Setup>,
 }
@@ -98,6 +100,8 @@ pub struct Dataset {
     pub mode: u8,
     /// The port's state.
     pub state: State,
+    /// The number of the experiment that asked for it, in state 2; else 0.
+    pub experiment: u16,
     /// What it says.
     pub value: Value,
 }

@@ -1,7 +1,9 @@
 //! The table and the reader without a table agree after every message of many lists. The seeds are fixed.
 
+use std::collections::BTreeSet;
+
 use yardstick::traffic::{Scene, Traffic};
-use yardstick::{MessageList, Refusal, Table, Way};
+use yardstick::{ExperimentTally, MessageList, Offered, Refusal, Table, Way};
 
 /// A list followed by both, with counts of the answers.
 #[derive(Default)]
@@ -10,12 +12,16 @@ struct Both {
     list: MessageList,
     /// How often each number came, 0 for acceptance.
     numbers: [u64; 20],
+    experiments: ExperimentTally,
+    /// The ports of this list that went with an experiment number.
+    gone: BTreeSet<u8>,
 }
 
 impl Both {
     fn start(&mut self) {
         self.table = Table::default();
         self.list = MessageList::default();
+        self.gone.clear();
     }
 
     fn count<T>(&mut self, answer: Result<T, Refusal>) {
@@ -28,15 +34,28 @@ impl Both {
         let by_list = self.list.hand_out(way, message, number);
         assert_eq!(by_list, answer, "dataset {number} of {message:02X?} {way:?}");
         self.count(answer);
+        if let Ok(dataset) = answer {
+            self.experiments.count_handed_out(&self.table, &dataset);
+        }
     }
 
-    fn offer(&mut self, way: Way, message: &[u8]) {
+    fn offer(&mut self, way: Way, message: &[u8], experiment: u16) {
         for number in [0, 1, 15] {
             self.hand_out(way, message, number);
         }
-        let answer = self.table.offer(way, message);
-        assert_eq!(self.list.push(way, message), answer, "{message:02X?} {way:?}");
+        let before = self.table.clone();
+        let answer = self.table.offer(way, message, experiment);
+        let by_list = self.list.push(way, message, experiment);
+        assert_eq!(by_list, answer, "{message:02X?} {way:?}");
         self.count(answer);
+        let offered = Offered {
+            before: &before,
+            after: &self.table,
+            message,
+            experiment,
+            answer,
+        };
+        self.experiments.count_offered(&mut self.gone, &offered);
     }
 
     fn compare_ports(&self, ports: impl Iterator<Item = u8>) {
@@ -50,7 +69,7 @@ impl Both {
     }
 
     fn expect_often(&self, name: &str, least: u64) {
-        println!("{name}: {:?}", self.numbers);
+        println!("{name}: {:?}\nexperiments: {}", self.numbers, self.experiments);
         for number in 10..=18 {
             let seen = self.numbers[number];
             assert!(seen >= least, "{number} came {seen} times, not {least}");
@@ -67,14 +86,15 @@ fn short_lists() {
     let mut both = Both::default();
     for seed in 0..400 {
         both.start();
-        let mut traffic = Traffic::new(seed, Scene::ALL[seed as usize % 4]);
+        let mut traffic = Traffic::new(seed, Scene::ALL[seed as usize % Scene::ALL.len()]);
         for _ in 0..60 {
-            let (way, message) = traffic.next(&both.table);
-            both.offer(way, &message);
+            let (way, message, experiment) = traffic.next(&both.table);
+            both.offer(way, &message, experiment);
             both.compare_ports(0..=255);
         }
     }
     both.expect_often("short lists", 100);
+    both.experiments.expect(100);
 }
 
 #[test]
@@ -82,10 +102,10 @@ fn long_lists() {
     let mut both = Both::default();
     for seed in 1000..1040 {
         both.start();
-        let mut traffic = Traffic::new(seed, Scene::ALL[seed as usize % 4]);
+        let mut traffic = Traffic::new(seed, Scene::ALL[seed as usize % Scene::ALL.len()]);
         for step in 0..800 {
-            let (way, message) = traffic.next(&both.table);
-            both.offer(way, &message);
+            let (way, message, experiment) = traffic.next(&both.table);
+            both.offer(way, &message, experiment);
             let (way, message) = traffic.value(&both.table);
             both.hand_out(way, &message, step % 3);
             if step % 50 == 0 {
@@ -94,4 +114,5 @@ fn long_lists() {
         }
     }
     both.expect_often("long lists", 1000);
+    both.experiments.expect(300);
 }

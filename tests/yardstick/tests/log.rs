@@ -2,25 +2,8 @@
 
 use std::io::{self, Read, Write};
 
-use yardstick::examples::bytes;
+use yardstick::examples::{bytes, LOGS};
 use yardstick::{log_record, read_log, Way, LOG_RECORD};
-
-/// The log example of the rules.
-const EXAMPLE: [(Way, &str); 6] = [
-    (Way::Up, "0F 00 04 00 01 26 00 00 00 00 10 00 00 00 10"),
-    (Way::Up, "0A 00 44 00 02 80 01 02 04 00"),
-    (Way::Up, "08 00 45 00 05 00 00 00"),
-    (Way::Down, "0A 00 41 00 02 01 00 00 00 01"),
-    (Way::Up, "0A 00 47 00 02 01 00 00 00 01"),
-    (Way::Up, "08 00 45 00 05 00 00 00"),
-];
-
-const EXAMPLE_LINES: &str = "1 0\n2 0\n3 14\n4 0\n5 0\n6 0 0 2 2 5\ntotal 6 refused 1\n";
-
-fn log(messages: &[(Way, &str)]) -> Vec<u8> {
-    let record = |&(way, message): &(Way, &str)| log_record(0x0102_0304, way, &bytes(message));
-    messages.iter().flat_map(record).collect()
-}
 
 fn printed(log: &[u8]) -> String {
     let mut output = Vec::new();
@@ -29,13 +12,10 @@ fn printed(log: &[u8]) -> String {
 }
 
 #[test]
-fn example() {
-    assert_eq!(printed(&log(&EXAMPLE)), EXAMPLE_LINES);
-}
-
-#[test]
-fn nothing() {
-    assert_eq!(printed(&[]), "total 0 refused 0\n");
+fn examples() {
+    for example in LOGS {
+        assert_eq!(printed(&example.log()), example.lines, "{}", example.name);
+    }
 }
 
 /// An input that gives few bytes at a time and is interrupted, and an output that takes few.
@@ -78,11 +58,13 @@ impl<T: Write> Write for Slow<T> {
 }
 
 #[test]
-fn example_in_small_pieces() {
-    let log = log(&EXAMPLE);
-    let mut output = Vec::new();
-    read_log(Slow::new(&log[..]), Slow::new(&mut output)).expect("reading from memory");
-    assert_eq!(String::from_utf8_lossy(&output), EXAMPLE_LINES);
+fn examples_in_small_pieces() {
+    for example in LOGS {
+        let log = example.log();
+        let mut output = Vec::new();
+        read_log(Slow::new(&log[..]), Slow::new(&mut output)).expect("reading from memory");
+        assert_eq!(String::from_utf8_lossy(&output), example.lines, "{}", example.name);
+    }
 }
 
 #[test]
@@ -109,7 +91,7 @@ fn errors_are_passed_on() {
 /// A last piece of every size under a record's is one more line, and counts in both totals.
 #[test]
 fn short_last_piece() {
-    let log = log(&EXAMPLE);
+    let log = [log_record(0, Way::Down, &[0x03, 0x00, 0x12], 7); 2].concat();
     for size in 1..LOG_RECORD {
         let text = printed(&log[..LOG_RECORD + size]);
         assert_eq!(text, "1 0\n2 19\ntotal 2 refused 1\n", "{size} bytes");
@@ -124,17 +106,18 @@ fn refusal_of(record: &[u8; LOG_RECORD]) -> String {
     line.strip_prefix("1 ").expect("the record's number").to_owned()
 }
 
-/// Each byte of a record changed: the time may be any; direction, zeros and the bytes after the message may not.
+/// Each byte of a record changed: the time and the experiment number may be any; direction, the zero and the bytes after
+/// the message may not.
 #[test]
 fn malformed_records() {
-    let record = log_record(u32::MAX, Way::Down, &[0x03, 0x00, 0x12]);
+    let record = log_record(u32::MAX, Way::Down, &[0x03, 0x00, 0x12], 0);
     assert_eq!(refusal_of(&record), "0");
     for place in 0..LOG_RECORD {
         for content in [1, 2, 3, 0x80, 0xFF] {
             let mut changed = record;
             changed[place] = content;
             let expected = match (place, content) {
-                (0..=3, _) => "0",
+                (0..=3 | 6..=7, _) => "0",
                 (4, 1) => "5",
                 // The length: what follows a shorter message isn't zeros.
                 (8, 1 | 2) => "19",
@@ -155,12 +138,13 @@ fn malformed_records() {
 #[test]
 fn malformed_records_with_refused_messages() {
     for message in ["", "01", "80", "03 01 12", "03 00 02", "05 00 04 00 00"] {
-        let record = log_record(0, Way::Up, &bytes(message));
-        assert_ne!(refusal_of(&record), "19", "`{message}`");
-        for place in [4, 5, 6, 7] {
+        let record = log_record(0, Way::Up, &bytes(message), 0);
+        let refusal = refusal_of(&record);
+        assert_ne!(refusal, "19", "`{message}`");
+        for (place, expected) in [(4, "19"), (5, "19"), (6, &refusal), (7, &refusal)] {
             let mut changed = record;
             changed[place] = 2;
-            assert_eq!(refusal_of(&changed), "19", "`{message}`, byte {place}");
+            assert_eq!(refusal_of(&changed), expected, "`{message}`, byte {place}");
         }
     }
 }
@@ -168,17 +152,17 @@ fn malformed_records_with_refused_messages() {
 #[test]
 fn lengths() {
     // No message: 1, unless a byte follows.
-    let mut record = log_record(0, Way::Up, &[]);
+    let mut record = log_record(0, Way::Up, &[], 0);
     assert_eq!(refusal_of(&record), "1");
     record[135] = 1;
     assert_eq!(refusal_of(&record), "19");
     // Lengths under 3.
-    assert_eq!(refusal_of(&log_record(0, Way::Up, &[1])), "3");
-    assert_eq!(refusal_of(&log_record(0, Way::Up, &[2, 1])), "3");
+    assert_eq!(refusal_of(&log_record(0, Way::Up, &[1], 0)), "3");
+    assert_eq!(refusal_of(&log_record(0, Way::Up, &[2, 1], 0)), "3");
     // The longest message has one byte after it.
     let mut message = [0x41; 127];
     message[..5].copy_from_slice(&[127, 0, 0x01, 8, 6]);
-    let mut record = log_record(0, Way::Up, &message);
+    let mut record = log_record(0, Way::Up, &message, 0);
     assert_eq!(refusal_of(&record), "0");
     record[135] = 1;
     assert_eq!(refusal_of(&record), "19");
@@ -201,10 +185,14 @@ fn floats() {
         (Way::Up, "0C 00 45 FF 00 00 C0 7F 00 00 80 3F"),
         (Way::Down, "0A 00 41 FF 0F 01 00 00 00 01"),
         (Way::Up, "0C 00 45 FF 00 00 00 00 00 00 00 80"),
+        (Way::Up, "0A 00 47 FF 0F 01 00 00 00 01"),
+        (Way::Up, "0C 00 45 FF 00 00 00 00 00 00 00 80"),
     ];
+    let record = |(way, message): (Way, &str)| log_record(0x0102_0304, way, &bytes(message), 9);
+    let log: Vec<u8> = messages.into_iter().flat_map(record).collect();
     assert_eq!(
-        printed(&log(&messages)),
-        "1 0\n2 0\n3 0\n4 0 255 15 0 3212836864 2139095039\n5 18\n6 18\n7 0\n8 0 255 15 1 0 2147483648\n\
-         total 8 refused 2\n"
+        printed(&log),
+        "1 0\n2 0\n3 0\n4 0 255 15 0 0 3212836864 2139095039\n5 18\n6 18\n7 0\n8 0 255 15 1 0 0 2147483648\n\
+         9 0\n10 0 255 15 2 9 0 2147483648\ntotal 10 refused 2\n"
     );
 }

@@ -79,12 +79,15 @@ fn a_bench_log_is_mixed() {
     let ports: BTreeSet<u64> = values.clone().map(|line| line[2]).collect();
     let modes: BTreeSet<[u64; 2]> = values.clone().map(|line| [line[2], line[3]]).collect();
     let states: BTreeSet<u64> = values.clone().map(|line| line[4]).collect();
-    let sizes: BTreeSet<usize> = values.map(|line| line.len() - 5).collect();
+    let experiments: BTreeSet<u64> = values.clone().map(|line| line[5]).collect();
+    let sizes: BTreeSet<usize> = values.map(|line| line.len() - 6).collect();
     let refusals: BTreeSet<u64> = lines.iter().map(|line| line[1]).filter(|&it| it != 0).collect();
     println!("ports {ports:?}, modes {modes:?}, states {states:?}, datasets {sizes:?}, refusals {refusals:?}");
+    println!("{} experiments", experiments.len());
     assert!(ports.len() >= 8);
     assert!(modes.len() >= 18);
     assert!(states.is_superset(&[1, 2, 3].into()));
+    assert!(experiments.len() >= 50);
     assert!(sizes.is_superset(&[1, 2, 3, 4, 6].into()));
     assert!(refusals.is_superset(&[10, 14, 16].into()));
     let refused = lines.iter().filter(|line| line[1] != 0).count();
@@ -96,8 +99,8 @@ fn forms(log: &[u8]) -> BTreeSet<u8> {
     let mut table = Table::default();
     let mut forms = BTreeSet::new();
     for record in log.chunks(LOG_RECORD) {
-        if let Ok((way, message)) = log_message(record) {
-            if table.offer(way, message).is_ok() {
+        if let Ok((way, message, experiment)) = log_message(record) {
+            if table.offer(way, message, experiment).is_ok() {
                 let decoded = decode(way, message).expect("an accepted message");
                 forms.insert(decoded.form.number());
             }
@@ -153,30 +156,49 @@ fn what_the_hour_shows() {
     let values = lines.iter().filter(|line| line.len() > 2);
     let states: BTreeSet<u64> = values.clone().map(|line| line[4]).collect();
     assert_eq!(states, [0, 1, 2, 3].into());
-    let sizes: BTreeSet<usize> = values.map(|line| line.len() - 5).collect();
+    let sizes: BTreeSet<usize> = values.map(|line| line.len() - 6).collect();
     assert_eq!(sizes, [1, 2, 3].into());
     let refusals: Vec<u64> = lines.iter().map(|line| line[1]).filter(|&it| it != 0).collect();
     assert_eq!(refusals, [14, 14, 15, 5, 5, 18, 16, 19, 5, 10, 12, 14, 15, 10]);
 }
 
-/// Between a 41 and its 47 the values of motor A are in the old mode and in state 1, both times; before and after they
-/// are in state 2.
+/// The records of the hour carry the number of the running experiment, and its values do in state 2 and in no other.
+#[test]
+fn experiments_of_the_hour() {
+    let log = hour();
+    let mut numbers: Vec<u16> = log
+        .chunks(LOG_RECORD)
+        .map(|record| u16::from(record[6]) + 256 * u16::from(record[7]))
+        .collect();
+    numbers.dedup();
+    assert_eq!(numbers, [0, 301, 302, 303]);
+    let mut shown = BTreeSet::new();
+    for line in lines(&log).iter().filter(|line| line.len() > 2) {
+        let [state, experiment] = [line[4], line[5]];
+        assert_eq!(state == 2, experiment != 0, "{line:?}");
+        shown.insert([state, experiment]);
+    }
+    assert_eq!(shown, [[0, 0], [1, 0], [2, 301], [2, 302], [2, 303], [3, 0]].into());
+}
+
+/// Between a 41 and its 47 the values of motor A are in the old mode, in state 1 and without an experiment number, both
+/// times; before and after they are in state 2 and have that of the experiment.
 #[test]
 fn late_answers_of_the_hour() {
-    let motor_a: Vec<[u64; 3]> = lines(&hour())
+    let motor_a: Vec<[u64; 4]> = lines(&hour())
         .iter()
         .filter(|line| line.len() > 2 && line[2] == 0)
-        .map(|line| [line[3], line[4], line[5]])
+        .map(|line| [line[3], line[4], line[5], line[6]])
         .collect();
-    let mut stages: Vec<([u64; 2], Vec<u64>)> = Vec::new();
-    for [mode, state, number] in motor_a {
+    let mut stages: Vec<([u64; 3], Vec<u64>)> = Vec::new();
+    for [mode, state, experiment, number] in motor_a {
         match stages.last_mut() {
-            Some((stage, numbers)) if *stage == [mode, state] => numbers.push(number),
-            _ => stages.push(([mode, state], vec![number])),
+            Some((stage, numbers)) if *stage == [mode, state, experiment] => numbers.push(number),
+            _ => stages.push(([mode, state, experiment], vec![number])),
         }
     }
-    let order: Vec<[u64; 2]> = stages.iter().map(|&(stage, _)| stage).collect();
-    assert_eq!(order, [[1, 2], [1, 1], [2, 2], [2, 1], [1, 2]]);
+    let order: Vec<[u64; 3]> = stages.iter().map(|&(stage, _)| stage).collect();
+    assert_eq!(order, [[1, 2, 301], [1, 1, 0], [2, 2, 302], [2, 1, 0], [1, 2, 303]]);
     assert_eq!(stages[1].1, [598, 451, 287, 140, 36]);
     assert_eq!(stages[3].1, [454, 461, 489, 530]);
 }

@@ -1,19 +1,24 @@
 //! The table and the reader without a table give every answer that is written out by hand.
 
-use yardstick::examples::{bytes, TableStep, TABLES};
+use yardstick::examples::{bytes, TableStep, EXPERIMENTS, TABLES};
 use yardstick::traffic::compose;
 use yardstick::{Form, MessageList, Refusal, Table, Way};
 
 #[test]
 fn table_examples() {
-    for example in TABLES {
+    for example in TABLES.iter().chain(EXPERIMENTS) {
         let mut table = Table::default();
         for step in example.steps {
             let name = format!("{}: {step:?}", example.name);
             match *step {
-                TableStep::Offer { way, message, answer } => {
+                TableStep::Offer {
+                    way,
+                    message,
+                    experiment,
+                    answer,
+                } => {
                     let before = table.clone();
-                    assert_eq!(table.offer(way, &bytes(message)), answer, "{name}");
+                    assert_eq!(table.offer(way, &bytes(message), experiment), answer, "{name}");
                     assert!(answer.is_ok() || table == before, "{name}");
                 }
                 TableStep::HandOut {
@@ -31,14 +36,17 @@ fn table_examples() {
 
 #[test]
 fn table_examples_without_a_table() {
-    for example in TABLES {
+    for example in TABLES.iter().chain(EXPERIMENTS) {
         let mut list = MessageList::default();
         for step in example.steps {
             let name = format!("{}: {step:?}", example.name);
             match *step {
-                TableStep::Offer { way, message, answer } => {
-                    assert_eq!(list.push(way, &bytes(message)), answer, "{name}");
-                }
+                TableStep::Offer {
+                    way,
+                    message,
+                    experiment,
+                    answer,
+                } => assert_eq!(list.push(way, &bytes(message), experiment), answer, "{name}"),
                 TableStep::HandOut {
                     way,
                     message,
@@ -66,8 +74,8 @@ fn detach(port: u64) -> Vec<u8> {
 
 /// Offers a message that goes up to both. Panics unless they agree.
 fn offer(table: &mut Table, list: &mut MessageList, message: &[u8]) -> Result<(), Refusal> {
-    let answer = table.offer(Way::Up, message);
-    assert_eq!(list.push(Way::Up, message), answer, "{message:02X?}");
+    let answer = table.offer(Way::Up, message, 7);
+    assert_eq!(list.push(Way::Up, message, 7), answer, "{message:02X?}");
     answer
 }
 

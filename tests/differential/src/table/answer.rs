@@ -3,10 +3,10 @@
 use yardstick::{Dataset, Format, Port, Refusal, Setup, Value, Wiring};
 
 /// How many cells the answer has when a dataset is handed out.
-pub const DATASET_CELLS: usize = 7;
+pub const DATASET_CELLS: usize = 8;
 
 /// How many cells the answer about a port has.
-pub const PORT_CELLS: usize = 14;
+pub const PORT_CELLS: usize = 15;
 
 /// How many cells the answer about a format has.
 pub const FORMAT_CELLS: usize = 6;
@@ -22,10 +22,10 @@ pub fn offer_answer(answer: Result<(), Refusal>) -> u64 {
     }
 }
 
-/// Refusal number, place, kind of value, value, port, mode, state.
+/// Refusal number, place, kind of value, value, port, mode, state, experiment number.
 pub fn dataset_cells(answer: Result<Dataset, Refusal>) -> [u64; DATASET_CELLS] {
     match answer {
-        Err(refusal) => [refusal.number.into(), refusal.place as u64, 0, 0, 0, 0, 0],
+        Err(refusal) => [refusal.number.into(), refusal.place as u64, 0, 0, 0, 0, 0, 0],
         Ok(dataset) => {
             let (kind, value) = match dataset.value {
                 Value::Whole(number) => (0, number),
@@ -39,13 +39,14 @@ pub fn dataset_cells(answer: Result<Dataset, Refusal>) -> [u64; DATASET_CELLS] {
                 dataset.port.into(),
                 dataset.mode.into(),
                 dataset.state.number().into(),
+                dataset.experiment.into(),
             ]
         }
     }
 }
 
 /// Refusal number, wiring, device, partner, second member, state, then whether something was asked, its mode, delta and
-/// notify, then the same of the answer.
+/// notify, then the same of the answer, then the experiment number.
 pub fn port_cells(answer: Result<Option<Port>, Refusal>) -> [u64; PORT_CELLS] {
     let mut cells = [0; PORT_CELLS];
     match answer {
@@ -64,6 +65,7 @@ pub fn port_cells(answer: Result<Option<Port>, Refusal>) -> [u64; PORT_CELLS] {
             cells[5] = port.state.number().into();
             cells[6..10].copy_from_slice(&setup_cells(port.asked));
             cells[10..14].copy_from_slice(&setup_cells(port.answered));
+            cells[14] = port.experiment.into();
         }
     }
     cells

@@ -52,10 +52,10 @@ impl LentTable {
         answer
     }
 
-    /// Offers a message. A refusal has to leave the table alone.
-    pub fn offer(&mut self, way: Way, message: &[u8]) -> u64 {
+    /// Offers a message with its experiment number. A refusal has to leave the table alone.
+    pub fn offer(&mut self, way: Way, message: &[u8], experiment: u16) -> u64 {
         let before = self.memory.clone();
-        let answer = castanetash_offer(self.lent(), message, way_byte(way));
+        let answer = castanetash_offer(self.lent(), message, way_byte(way), experiment);
         if answer == 0 {
             self.expect_margins();
         } else {

@@ -1,6 +1,7 @@
+use std::collections::BTreeSet;
 use std::fmt;
 
-use yardstick::{Port, Refusal, Wiring};
+use yardstick::{Dataset, ExperimentTally, Offered, Port, Refusal, Table, Wiring};
 
 /// How many numbers answers have: 0 for acceptance and the refusals.
 const NUMBERS: usize = 20;
@@ -14,6 +15,9 @@ pub struct TableTally {
     wirings: [u64; 4],
     states: [u64; 4],
     formats: u64,
+    /// Ports with an experiment number other than 0, by their state.
+    ports_with_number: [u64; 4],
+    experiments: ExperimentTally,
 }
 
 impl TableTally {
@@ -25,6 +29,16 @@ impl TableTally {
     /// Counts the answer to a dataset that was asked for.
     pub fn count_handed_out<T>(&mut self, answer: Result<T, Refusal>) {
         self.handed_out[number(answer)] += 1;
+    }
+
+    /// Counts the experiment number of a dataset that was handed out by a table.
+    pub fn count_experiment(&mut self, table: &Table, dataset: &Dataset) {
+        self.experiments.count_handed_out(table, dataset);
+    }
+
+    /// Counts the experiment number of an offered message. `gone` belongs to the list of messages.
+    pub fn count_offered_experiment(&mut self, gone: &mut BTreeSet<u8>, offered: &Offered) {
+        self.experiments.count_offered(gone, offered);
     }
 
     /// Counts a port.
@@ -39,7 +53,9 @@ impl TableTally {
             Wiring::Virtual { .. } => 3,
         };
         self.wirings[wiring] += 1;
-        self.states[usize::from(port.state.number())] += 1;
+        let state = usize::from(port.state.number());
+        self.states[state] += 1;
+        self.ports_with_number[state] += u64::from(port.experiment != 0);
     }
 
     /// Counts a known format.
@@ -73,6 +89,20 @@ impl TableTally {
             assert!(seen >= least, "a port's answer came {seen} times, not {least}\n{self}");
         }
     }
+
+    /// Panics unless ports and values with an experiment number came at least `least` times in every state.
+    pub fn expect_numbers(&self, least: u64) {
+        for &seen in &self.ports_with_number[1..] {
+            assert!(seen >= least, "a port's number came {seen} times, not {least}\n{self}");
+        }
+        self.experiments.expect_values(least);
+    }
+
+    /// Panics unless all that lists can show of experiment numbers came at least `least` times.
+    pub fn expect_experiments(&self, least: u64) {
+        self.expect_numbers(least);
+        self.experiments.expect(least);
+    }
 }
 
 fn number<T>(answer: Result<T, Refusal>) -> usize {
@@ -93,10 +123,13 @@ impl fmt::Display for TableTally {
             let [absent, unjoined, joined, virtual_ports] = self.wirings;
             write!(
                 f,
-                "\nports: absent {absent}, unjoined {unjoined}, joined {joined}, virtual {virtual_ports}; states {:?}; \
-                 formats {}",
-                self.states, self.formats
+                "\nports: absent {absent}, unjoined {unjoined}, joined {joined}, virtual {virtual_ports}; states {:?}, \
+                 with a number {:?}; formats {}",
+                self.states, self.ports_with_number, self.formats
             )?;
+        }
+        if !self.experiments.is_empty() {
+            write!(f, "\nexperiments: {}", self.experiments)?;
         }
         Ok(())
     }

@@ -1,4 +1,6 @@
-use yardstick::{MessageList, Table, Way, Wiring};
+use std::collections::BTreeSet;
+
+use yardstick::{MessageList, Offered, Table, Way, Wiring};
 
 use super::answer::{dataset_cells, format_cells, offer_answer, port_cells};
 use super::lent_table::LentTable;
@@ -11,6 +13,8 @@ pub struct Trio {
     product: LentTable,
     table: Table,
     list: MessageList,
+    /// The ports that went with an experiment number.
+    gone: BTreeSet<u8>,
 }
 
 impl Default for Trio {
@@ -20,6 +24,7 @@ impl Default for Trio {
             product: LentTable::empty(),
             table: Table::default(),
             list: MessageList::default(),
+            gone: BTreeSet::new(),
         }
     }
 }
@@ -30,28 +35,34 @@ impl Trio {
         &self.table
     }
 
-    /// Offers a message, and compares the answers and all cells of the two tables. Gives the ports that the message may
-    /// have touched: those it names, their partners and those that went.
-    pub fn offer(&mut self, tally: &mut TableTally, way: Way, message: &[u8]) -> Vec<u8> {
-        let before: Vec<u8> = self.table.ports().collect();
+    /// Offers a message with its experiment number, and compares the answers and all cells of the two tables. Gives the
+    /// ports that the message may have touched: those it names, their partners and those that went.
+    pub fn offer(&mut self, tally: &mut TableTally, way: Way, message: &[u8], experiment: u16) -> Vec<u8> {
+        let before = self.table.clone();
         let mut touched = self.named(message);
-        let answer = self.table.offer(way, message);
-        let by_list = self.list.push(way, message);
-        let by_product = self.product.offer(way, message);
-        assert_eq!(by_list, answer, "the second program differs on {message:02X?} {way:?}");
-        assert_eq!(
-            by_product,
-            offer_answer(answer),
-            "the product differs on {message:02X?} {way:?}"
-        );
+        let answer = self.table.offer(way, message, experiment);
+        let by_list = self.list.push(way, message, experiment);
+        let by_product = self.product.offer(way, message, experiment);
+        let name = || format!("{message:02X?} {way:?} with {experiment}");
+        assert_eq!(by_list, answer, "the second program differs on {}", name());
+        assert_eq!(by_product, offer_answer(answer), "the product differs on {}", name());
         assert_eq!(
             self.product.cells(),
             self.table.to_cells(),
-            "the tables differ after {message:02X?} {way:?}"
+            "the tables differ after {}",
+            name()
         );
+        let offered = Offered {
+            before: &before,
+            after: &self.table,
+            message,
+            experiment,
+            answer,
+        };
         tally.count_offered(answer);
+        tally.count_offered_experiment(&mut self.gone, &offered);
         touched.extend(self.named(message));
-        touched.extend(before.into_iter().filter(|&port| self.table.port(port).is_none()));
+        touched.extend(before.ports().filter(|&port| self.table.port(port).is_none()));
         touched.sort_unstable();
         touched.dedup();
         touched
@@ -72,6 +83,9 @@ impl Trio {
             "the product differs on dataset {number} of {message:02X?} {way:?}"
         );
         tally.count_handed_out(answer);
+        if let Ok(dataset) = answer {
+            tally.count_experiment(&self.table, &dataset);
+        }
     }
 
     /// Compares what is held about a port, and the formats of its modes.

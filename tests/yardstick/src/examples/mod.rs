@@ -1,8 +1,11 @@
 //! Messages with the answers they have to get, written out by hand from the documents. Both programs are held to them.
 
 mod bench;
+mod experiments;
 mod forms;
 mod hex;
+mod logs;
+mod messages;
 mod order;
 mod sound;
 mod table_step;
@@ -18,8 +21,10 @@ use crate::values::Values;
 use crate::way::Way;
 
 pub use bench::BENCH;
+pub use experiments::EXPERIMENTS;
 pub use forms::FORMS;
 pub use hex::bytes;
+pub use logs::{LogExample, LOGS};
 pub use order::ORDER;
 pub use sound::{SoundExample, SOUND};
 pub use table_step::{TableExample, TableStep};

@@ -19,6 +19,8 @@ pub enum TableStep {
         way: Way,
         /// The message's bytes in hex.
         message: &'static str,
+        /// The experiment number that comes with it.
+        experiment: u16,
         /// The answer.
         answer: Result<(), Refusal>,
     },
@@ -51,18 +53,53 @@ pub enum TableStep {
     },
 }
 
+/// An accepted message with experiment number 0.
 pub(super) const fn accepted(way: Way, message: &'static str) -> TableStep {
-    let answer = Ok(());
-    TableStep::Offer { way, message, answer }
+    accepted_in(0, way, message)
 }
 
+pub(super) const fn accepted_in(experiment: u16, way: Way, message: &'static str) -> TableStep {
+    TableStep::Offer {
+        way,
+        message,
+        experiment,
+        answer: Ok(()),
+    }
+}
+
+/// A refused message with experiment number 0.
 pub(super) const fn refused(way: Way, message: &'static str, number: u8, place: usize) -> TableStep {
-    let answer = Err(Refusal { number, place });
-    TableStep::Offer { way, message, answer }
+    refused_in(0, way, message, number, place)
 }
 
-/// A dataset of a 45, which goes up.
+pub(super) const fn refused_in(
+    experiment: u16,
+    way: Way,
+    message: &'static str,
+    number: u8,
+    place: usize,
+) -> TableStep {
+    TableStep::Offer {
+        way,
+        message,
+        experiment,
+        answer: Err(Refusal { number, place }),
+    }
+}
+
+/// A dataset of a 45, which goes up, with experiment number 0.
 pub(super) const fn handed_out(
+    message: &'static str,
+    number: usize,
+    port_and_mode: [u8; 2],
+    state: State,
+    value: Value,
+) -> TableStep {
+    handed_out_in(0, message, number, port_and_mode, state, value)
+}
+
+pub(super) const fn handed_out_in(
+    experiment: u16,
     message: &'static str,
     number: usize,
     [port, mode]: [u8; 2],
@@ -77,6 +114,7 @@ pub(super) const fn handed_out(
             port,
             mode,
             state,
+            experiment,
             value,
         }),
     }
@@ -96,8 +134,19 @@ pub(super) const fn bare(port: u8, wiring: Wiring) -> TableStep {
     set_up(port, wiring, State::NothingAsked, None, None)
 }
 
-/// A port of device 26 with its setups.
+/// A port of device 26 with its setups and experiment number 0.
 pub(super) const fn set_up(
+    port: u8,
+    wiring: Wiring,
+    state: State,
+    asked: Option<Setup>,
+    answered: Option<Setup>,
+) -> TableStep {
+    set_up_in(0, port, wiring, state, asked, answered)
+}
+
+pub(super) const fn set_up_in(
+    experiment: u16,
     port: u8,
     wiring: Wiring,
     state: State,
@@ -111,6 +160,7 @@ pub(super) const fn set_up(
             wiring,
             state,
             asked,
+            experiment,
             answered,
         }),
     }

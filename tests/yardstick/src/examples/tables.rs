@@ -1,3 +1,7 @@
+use super::messages::{
+    ANSWER_0, ANSWER_2, ASK_0, ASK_2, ATTACH_0, ATTACH_1, ATTACH_2, ATTACH_3, FORMAT_0, FORMAT_2, VALUE_1, VALUE_4,
+    VIRTUAL_10,
+};
 use super::table_step::{
     absent, accepted, bare, format, handed_out, no_format, refused, set_up, setup, withheld, TableExample,
 };
@@ -6,30 +10,9 @@ use crate::answer::Value::{Float, Whole};
 use crate::answer::Wiring::{self, Joined, Unjoined, Virtual};
 use crate::way::Way::{Down, Up};
 
-// Plain attachments of ports 0 to 3, device 26.
-const ATTACH_0: &str = "0F 00 04 00 01 26 00 00 00 00 10 00 00 00 10";
-const ATTACH_1: &str = "0F 00 04 01 01 26 00 00 00 00 10 00 00 00 10";
-const ATTACH_2: &str = "0F 00 04 02 01 26 00 00 00 00 10 00 00 00 10";
-const ATTACH_3: &str = "0F 00 04 03 01 26 00 00 00 00 10 00 00 00 10";
-
-// Virtual attachment of port 10 with members 0 and 1, device 26.
-const VIRTUAL_10: &str = "09 00 04 10 02 26 00 00 01";
+// Virtual port 10 and its members.
 const MEMBERS_0_1: Wiring = Virtual { port_a: 0, port_b: 1 };
 const OF_10: Wiring = Joined { virtual_port: 0x10 };
-
-// To and from port 0, with delta 1 and notifications: mode 2 asked and answered, mode 0 asked and answered.
-const ASK_2: &str = "0A 00 41 00 02 01 00 00 00 01";
-const ANSWER_2: &str = "0A 00 47 00 02 01 00 00 00 01";
-const ASK_0: &str = "0A 00 41 00 00 01 00 00 00 01";
-const ANSWER_0: &str = "0A 00 47 00 00 01 00 00 00 01";
-
-// Formats of port 0: mode 2 has one dataset of 32 bits, mode 0 one of 8 bits.
-const FORMAT_2: &str = "0A 00 44 00 02 80 01 02 04 00";
-const FORMAT_0: &str = "0A 00 44 00 00 80 01 00 03 00";
-
-// Values of port 0: one byte, and four.
-const VALUE_1: &str = "05 00 45 00 FE";
-const VALUE_4: &str = "08 00 45 00 05 00 00 00";
 
 /// Lists of messages with what a table holds after them.
 #[rustfmt::skip]

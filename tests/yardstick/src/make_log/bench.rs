@@ -4,7 +4,7 @@ use super::devices::{Device, DEVICES};
 use crate::form::Form;
 use crate::log::{log_record, LOG_RECORD};
 use crate::random::Random;
-use crate::traffic::compose;
+use crate::traffic::{compose, experiment};
 use crate::way::Way;
 
 /// The log of a bench.
@@ -12,8 +12,10 @@ pub(super) struct Bench {
     random: Random,
     time: u32,
     links: Vec<Link>,
-    /// What comes next.
-    queue: VecDeque<(Way, Vec<u8>)>,
+    /// The number of the running experiment, which every record carries.
+    experiment: u16,
+    /// What comes next, each with its experiment number.
+    queue: VecDeque<(Way, Vec<u8>, u16)>,
 }
 
 /// How a device stands.
@@ -49,8 +51,10 @@ impl Bench {
             mode: None,
             level: 0,
         };
+        let mut random = Random::new(seed);
         let mut bench = Bench {
-            random: Random::new(seed),
+            experiment: experiment(&mut random),
+            random,
             time: 0,
             links: DEVICES.iter().map(link).collect(),
             queue: VecDeque::new(),
@@ -64,9 +68,9 @@ impl Bench {
         if self.queue.is_empty() {
             self.go_on();
         }
-        let (way, message) = self.queue.pop_front().expect("something always comes next");
+        let (way, message, experiment) = self.queue.pop_front().expect("something always comes next");
         self.time = self.time.wrapping_add(self.random.below(12) as u32);
-        log_record(self.time, way, &message)
+        log_record(self.time, way, &message, experiment)
     }
 
     /// The hub starts: it tells its name and version, and what is attached to it.
@@ -90,7 +94,8 @@ impl Bench {
         match self.random.below(10_000) {
             0 => self.restart(),
             1..=5 => self.pull(),
-            6..=60 => self.change_mode(),
+            6..=50 => self.change_mode(),
+            51..=60 => self.begin_experiment(),
             61..=90 => self.tell_about_hub(),
             91..=93 => self.spoil(),
             _ => {
@@ -128,7 +133,7 @@ impl Bench {
         let port = self.links[index].device.port;
         let late = self.value_message(index);
         self.up(Form::Detached, &[port.into(), 0]);
-        self.queue.extend(late.clone());
+        self.push_value(late.clone());
         self.links[index].forget();
         let pair = self.pair_of(port);
         if let Some((virtual_port, _)) = pair {
@@ -139,7 +144,7 @@ impl Bench {
             self.value(other);
         }
         self.attach(index);
-        self.queue.extend(late);
+        self.push_value(late);
         self.ask_and_set(index, 0);
         if let Some((virtual_port, [port_a, port_b])) = pair {
             self.down(Form::VirtualConnect, &[1, port_a.into(), port_b.into()]);
@@ -166,6 +171,14 @@ impl Bench {
         self.down(Form::PortInformationRequest, &[port, 1]);
         self.up(Form::PortModes, &[port, 1, 7, device.modes.len() as u64, modes, 0]);
         self.set(index, mode);
+    }
+
+    /// The next experiment begins: its number is another, and the client sets some ports to a mode.
+    fn begin_experiment(&mut self) {
+        self.experiment = self.experiment.wrapping_add(self.random.between(1, 300) as u16);
+        for _ in 0..self.random.between(1, 4) {
+            self.change_mode();
+        }
     }
 
     fn change_mode(&mut self) {
@@ -230,7 +243,7 @@ impl Bench {
     /// A message is spoilt: its last byte is lost, a bit is turned, or a float is no number.
     fn spoil(&mut self) {
         let index = self.any(Link::sends);
-        let Some((way, mut message)) = self.value_message(index) else {
+        let Some(mut message) = self.value_message(index) else {
             return self.value(index);
         };
         match self.random.below(3) {
@@ -247,16 +260,23 @@ impl Bench {
                 message[last..].copy_from_slice(&[0xC0, 0x7F]);
             }
         }
-        self.queue.push_back((way, message));
+        self.push(Way::Up, message);
     }
 
     fn value(&mut self, index: usize) {
         let message = self.value_message(index);
-        self.queue.extend(message);
+        self.push_value(message);
+    }
+
+    /// Puts a 45 behind what comes next, if there is one.
+    fn push_value(&mut self, message: Option<Vec<u8>>) {
+        if let Some(message) = message {
+            self.push(Way::Up, message);
+        }
     }
 
     /// A 45 by a device's mode, if it has one. Its level wanders.
-    fn value_message(&mut self, index: usize) -> Option<(Way, Vec<u8>)> {
+    fn value_message(&mut self, index: usize) -> Option<Vec<u8>> {
         let step = self.random.below(21) as i32 - 10;
         let link = &mut self.links[index];
         let (_, _, [datasets, kind, ..]) = link.device.modes[link.mode?];
@@ -271,8 +291,7 @@ impl Bench {
                 _ => bytes.extend((level as f32 / 8.0).to_le_bytes()),
             }
         }
-        let message = compose(Way::Up, Form::PortValue, &[link.device.port.into()], &bytes);
-        Some((Way::Up, message))
+        Some(compose(Way::Up, Form::PortValue, &[link.device.port.into()], &bytes))
     }
 
     /// A device of those that are as wanted, of which there is at least one.
@@ -288,10 +307,14 @@ impl Bench {
     }
 
     fn up_open(&mut self, form: Form, values: &[u64], open: &[u8]) {
-        self.queue.push_back((Way::Up, compose(Way::Up, form, values, open)));
+        self.push(Way::Up, compose(Way::Up, form, values, open));
     }
 
     fn down(&mut self, form: Form, values: &[u64]) {
-        self.queue.push_back((Way::Down, compose(Way::Down, form, values, &[])));
+        self.push(Way::Down, compose(Way::Down, form, values, &[]));
+    }
+
+    fn push(&mut self, way: Way, message: Vec<u8>) {
+        self.queue.push_back((way, message, self.experiment));
     }
 }

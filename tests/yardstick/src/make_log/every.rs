@@ -36,9 +36,9 @@ impl Every {
             Some(record) => record,
             None => self.random_record(),
         };
-        if let Ok((way, message)) = log_message(&record) {
+        if let Ok((way, message, experiment)) = log_message(&record) {
             // A refused message changes nothing.
-            let _ = self.table.offer(way, message);
+            let _ = self.table.offer(way, message, experiment);
         }
         record
     }
@@ -50,12 +50,17 @@ impl Every {
             self.traffic = Traffic::new(self.random.number(), scene);
         }
         self.time = self.time.wrapping_add(self.random.below(1 << 20) as u32);
-        let (way, mut message) = self.traffic.next(&self.table);
+        let (way, mut message, experiment) = self.traffic.next(&self.table);
         message.truncate(MESSAGE_PART);
-        let mut record = log_record(self.time, way, &message);
-        if self.random.once_in(32) {
-            let place = self.random.between(4, LOG_RECORD - 1);
-            record[place] = self.random.byte();
+        let mut record = log_record(self.time, way, &message, experiment);
+        match self.random.below(64) {
+            0 | 1 => {
+                let place = self.random.between(4, LOG_RECORD - 1);
+                record[place] = self.random.byte();
+            }
+            // The zero and the number's bytes.
+            2 => record[5..8].fill_with(|| self.random.byte()),
+            _ => {}
         }
         record
     }

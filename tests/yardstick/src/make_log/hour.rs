@@ -3,8 +3,8 @@ use crate::log::{log_record, LOG_RECORD};
 use crate::traffic::compose;
 use crate::way::Way;
 
-/// The records of an hour at a bench: three experiments with two motors, and what goes wrong between them. A number
-/// after a message is its refusal.
+/// The records of an hour at a bench: three experiments with two motors, and what goes wrong between them. Every record
+/// carries the number of the running experiment, 0 before the first. A number after a message is its refusal.
 pub(super) fn hour() -> Vec<[u8; LOG_RECORD]> {
     let mut hour = Hour::default();
     hour.switch_on();
@@ -53,6 +53,11 @@ const ONE_FLOAT: [u64; 4] = [1, 3, 8, 3];
 const ELECTRIC: u64 = 0;
 const ONE_NARROW: [u64; 4] = [1, 1, 5, 0];
 
+// The numbers of the experiments. Each has two bytes, so their order matters.
+const FIRST: u16 = 301;
+const SECOND: u16 = 302;
+const THIRD: u16 = 303;
+
 /// How long after a record the next one comes, unless the story says otherwise.
 const STEP: u32 = 20;
 
@@ -61,6 +66,8 @@ struct Hour {
     records: Vec<[u8; LOG_RECORD]>,
     /// When the next record comes, in milliseconds.
     time: u32,
+    /// The number of the running experiment.
+    experiment: u16,
 }
 
 impl Hour {
@@ -126,6 +133,7 @@ impl Hour {
     /// The client sets up what the first experiment needs, and the hub answers at once, as it was asked.
     fn first_setups(&mut self) {
         self.at(2, 0);
+        self.experiment = FIRST;
         for (port, mode) in [
             (MOTOR_A, SPEED),
             (MOTOR_B, SPEED),
@@ -137,7 +145,8 @@ impl Hour {
         }
     }
 
-    /// Motor A runs up to 600 degrees a second, and motor B brakes it. All values are in state 2, but for the voltage's.
+    /// Motor A runs up to 600 degrees a second, and motor B brakes it. All values are in state 2 and carry the number of
+    /// the experiment, but for the voltage's.
     fn first_experiment(&mut self) {
         self.at(5, 0);
         // Start motor A at a speed, and the hub's feedback that it runs. 5: types 81 and 82 are not covered.
@@ -175,10 +184,12 @@ impl Hour {
 
     /// The second experiment needs the position of motor A in place of its speed. The hub is slow: for almost two
     /// seconds it goes on sending speeds, while the motor runs down, and each of them could be a position. They are read
-    /// by the mode that the hub last answered, and state 1 says that it has not answered since it was asked.
+    /// by the mode that the hub last answered, and state 1 says that it has not answered since it was asked. They carry
+    /// no number: neither experiment asked for them.
     fn late_answer(&mut self) {
         self.at(20, 0);
         self.wide(MOTOR_A, &[602]);
+        self.experiment = SECOND;
         self.ask(MOTOR_A, POSITION, 5);
         for speed in [598, 451, 287, 140, 36] {
             self.time += 280;
@@ -196,7 +207,8 @@ impl Hour {
         self.wide(MOTOR_A, &[0]);
     }
 
-    /// Motor A goes from one position to the next, an eighth of a turn at a time.
+    /// Motor A goes from one position to the next, an eighth of a turn at a time. The load cell and the current are not
+    /// asked anew, so their values still carry the number of the first experiment.
     fn second_experiment(&mut self) {
         for (minute, position, force) in [
             (22, 45, 0.75),
@@ -253,7 +265,7 @@ impl Hour {
     }
 
     /// The cable of motor B is pulled. Motor B is gone, and the virtual port with it; motor A is as it was. When motor B
-    /// is there again, nothing of what was known of it holds.
+    /// is there again, nothing of what was known of it holds. It is set up for the third experiment.
     fn pulled_cable(&mut self) {
         self.at(45, 0);
         self.up(Form::Detached, &[MOTOR_B, 0]);
@@ -263,6 +275,7 @@ impl Hour {
         // 12: one of the pair is not present.
         self.down(Form::VirtualConnect, &[1, MOTOR_A, MOTOR_B]);
         self.at(46, 30);
+        self.experiment = THIRD;
         self.attach(MOTOR_B, 0x26);
         // 14: no 47 came since motor B was attached.
         self.wide(MOTOR_B, &[0]);
@@ -393,7 +406,7 @@ impl Hour {
     }
 
     fn raw(&mut self, way: Way, message: &[u8]) {
-        self.records.push(log_record(self.time, way, message));
+        self.records.push(log_record(self.time, way, message, self.experiment));
         self.time += STEP;
     }
 }

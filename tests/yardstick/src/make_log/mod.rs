@@ -13,8 +13,8 @@ use bench::Bench;
 use every::Every;
 use hour::hour;
 
-/// Writes a log as a bench makes it: a hub with motors and sensors whose modes change now and then. In a log of a
-/// thousand records or more, at least half are accepted 45s.
+/// Writes a log as a bench makes it: a hub with motors and sensors whose modes change now and then. Each record carries
+/// the number of the running experiment. In a log of a thousand records or more, at least half are accepted 45s.
 pub fn bench_log(seed: u64, records: u64, output: impl Write) -> io::Result<()> {
     let mut bench = Bench::new(seed);
     write_log(records, output, || bench.next_record())
@@ -26,8 +26,8 @@ pub fn every_log(seed: u64, records: u64, output: impl Write) -> io::Result<()> 
     write_log(records, output, || every.next_record())
 }
 
-/// Writes the log of an hour at a bench, always the same. It shows every state of a value, and refusals that a bench
-/// gives.
+/// Writes the log of an hour at a bench, always the same. It shows every state of a value, three experiments, and
+/// refusals that a bench gives.
 pub fn hour_log(mut output: impl Write) -> io::Result<()> {
     output.write_all(hour().as_flattened())?;
     output.flush()

@@ -30,11 +30,10 @@ impl Opening {
         self.up(&[0x03, 0x00, 0x12]);
         self.down(&[0x03, 0x00, 0x02]);
         self.down(&[0x04, 0x00, 0x02, 0x07]);
-        // Direction 2, each zero that isn't, and a byte after the message.
-        for place in [4, 5, 6, 7, 11, 135] {
-            let mut record = log_record(0, Way::Down, &[0x03, 0x00, 0x12]);
-            record[place] = 2;
-            self.records.push(record);
+        // Direction 2, a zero that isn't, and bytes after the message.
+        for place in [4, 5, 11, 135] {
+            self.down(&[0x03, 0x00, 0x12]);
+            self.records.last_mut().expect("the record of above")[place] = 2;
         }
     }
 
@@ -120,10 +119,16 @@ impl Opening {
     }
 
     fn up(&mut self, message: &[u8]) {
-        self.records.push(log_record(0, Way::Up, message));
+        self.record(Way::Up, message);
     }
 
     fn down(&mut self, message: &[u8]) {
-        self.records.push(log_record(0, Way::Down, message));
+        self.record(Way::Down, message);
+    }
+
+    /// Adds a record. Each has an experiment number of its own, whose bytes differ.
+    fn record(&mut self, way: Way, message: &[u8]) {
+        let experiment = 0x8001 + self.records.len() as u16;
+        self.records.push(log_record(0, way, message, experiment));
     }
 }

@@ -4,8 +4,8 @@ use super::Table;
 use crate::answer::Wiring;
 
 impl Table {
-    /// Takes a step that this table has judged.
-    pub fn take(&mut self, step: Step) {
+    /// Takes a step that this table has judged. Of the experiment number only an asking makes use.
+    pub fn take(&mut self, step: Step, experiment: u16) {
         match step {
             Step::Nothing | Step::Value(_) => {}
             Step::Attach { port, device } => self.add(Record::attached(port, device, Wiring::Unjoined)),
@@ -18,7 +18,7 @@ impl Table {
             }
             Step::Detach { port } => self.detach(port),
             Step::Format { port, mode, format } => self.judged(port).formats[usize::from(mode)] = Some(format),
-            Step::Ask { port, setup } => self.judged(port).ask(setup),
+            Step::Ask { port, setup } => self.judged(port).ask(setup, experiment),
             Step::Answer { port, setup } => self.judged(port).answer(setup),
             Step::Empty => *self = Table::default(),
         }

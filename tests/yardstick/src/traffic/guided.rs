@@ -1,5 +1,6 @@
 use super::compose;
 use super::damage::damage;
+use super::experiment::experiment;
 use super::float::float;
 use super::plausible::plausible;
 use super::scene::{Scene, Sort};
@@ -16,7 +17,8 @@ const MODES: [u8; 4] = [0, 1, 2, 15];
 const DELTAS: [u32; 7] = [0, 1, 5, 0x100, 0x1_0005, 0x8000_0001, u32::MAX];
 
 /// A list of random messages, guided by what a table holds: most are accepted, and the others are refused for many
-/// reasons. The table is the caller's, who offers it the messages.
+/// reasons. Each has an experiment number of its own, whatever it is. The table is the caller's, who offers it the
+/// messages.
 pub struct Traffic {
     random: Random,
     scene: Scene,
@@ -49,14 +51,14 @@ impl Traffic {
         }
     }
 
-    /// The next message, and its way.
-    pub fn next(&mut self, table: &Table) -> (Way, Vec<u8>) {
+    /// The next message, with its way and its experiment number.
+    pub fn next(&mut self, table: &Table) -> (Way, Vec<u8>, u16) {
         let sort = self.scene.sort(&mut self.random);
         let (mut way, mut message) = self.of_sort(sort, table);
         if !message.is_empty() && self.random.once_in(16) {
             damage(&mut self.random, &mut way, &mut message);
         }
-        (way, message)
+        (way, message, experiment(&mut self.random))
     }
 
     /// A 45, and its way.
@@ -74,6 +76,7 @@ impl Traffic {
             }
             Sort::Format => self.format(table),
             Sort::Ask => self.ask(table),
+            Sort::RefusedAsk => self.refused_ask(table),
             Sort::Answer => self.answer(table),
             Sort::Value => self.port_value(table),
             Sort::Setup => self.virtual_setup(table),
@@ -134,6 +137,29 @@ impl Traffic {
         let setup = self.any_setup();
         let message = compose(Way::Down, Form::InputFormatSetup, &setup_values(port, setup), &[]);
         (Way::Down, message)
+    }
+
+    /// A 41 that is refused: mostly to a port that was asked something, and with one thing wrong; or to an absent port.
+    fn refused_ask(&mut self, table: &Table) -> (Way, Vec<u8>) {
+        let port = self.rather(table, |port| table.port(port).is_some_and(|it| it.asked.is_some()));
+        let setup = self.any_setup();
+        let mut way = Way::Down;
+        let mut message = compose(way, Form::InputFormatSetup, &setup_values(port, setup), &[]);
+        match self.random.below(6) {
+            0 => message[4] = self.random.between(16, 255) as u8,
+            1 => message[9] = self.random.between(2, 255) as u8,
+            2 => {
+                message.pop();
+                message[0] -= 1;
+            }
+            3 => {
+                message.push(0);
+                message[0] += 1;
+            }
+            4 => way = Way::Up,
+            _ => message[3] = self.absent(table),
+        }
+        (way, message)
     }
 
     /// A 47, rather one that is due: as asked, with one field other, or any.

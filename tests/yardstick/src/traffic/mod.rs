@@ -1,6 +1,7 @@
 //! Random messages to try the programs with.
 
 mod damage;
+mod experiment;
 mod float;
 mod guided;
 mod plausible;
@@ -11,6 +12,7 @@ use crate::form::Form;
 use crate::message::Message;
 use crate::way::Way;
 
+pub use experiment::experiment;
 pub use guided::Traffic;
 pub use plausible::{known_types, plausible};
 pub use scene::Scene;

@@ -9,6 +9,8 @@ pub enum Scene {
     Crowd,
     /// Few ports, which are set up and send values.
     Values,
+    /// Few ports, which are asked again and again, some of it in vain, and are pulled and attached again.
+    Experiments,
     /// All of it.
     Mixed,
 }
@@ -21,6 +23,7 @@ pub(super) enum Sort {
     Detach,
     Format,
     Ask,
+    RefusedAsk,
     Answer,
     Value,
     Setup,
@@ -31,14 +34,20 @@ pub(super) enum Sort {
 
 impl Scene {
     /// Every scene.
-    pub const ALL: [Scene; 4] = [Scene::Pairs, Scene::Crowd, Scene::Values, Scene::Mixed];
+    pub const ALL: [Scene; 5] = [
+        Scene::Pairs,
+        Scene::Crowd,
+        Scene::Values,
+        Scene::Experiments,
+        Scene::Mixed,
+    ];
 
     /// How many ports the messages name, as a rule.
     pub(super) fn ports(self) -> usize {
         match self {
             Scene::Pairs => 6,
             Scene::Crowd => 22,
-            Scene::Values => 3,
+            Scene::Values | Scene::Experiments => 3,
             Scene::Mixed => 10,
         }
     }
@@ -57,13 +66,14 @@ impl Scene {
     }
 
     /// How often each sort comes.
-    fn shares(self) -> [(Sort, usize); 11] {
+    fn shares(self) -> [(Sort, usize); 12] {
         use Sort::*;
         let shares = match self {
-            Scene::Pairs => [30, 30, 12, 6, 6, 6, 14, 12, 4, 1, 4],
-            Scene::Crowd => [60, 16, 8, 4, 4, 4, 8, 6, 4, 0, 4],
-            Scene::Values => [8, 2, 1, 20, 16, 20, 60, 2, 4, 0, 4],
-            Scene::Mixed => [20, 12, 6, 16, 14, 16, 40, 8, 8, 1, 8],
+            Scene::Pairs => [30, 30, 12, 6, 6, 1, 6, 14, 12, 4, 1, 4],
+            Scene::Crowd => [60, 16, 8, 4, 4, 1, 4, 8, 6, 4, 0, 4],
+            Scene::Values => [8, 2, 1, 20, 16, 2, 20, 60, 2, 4, 0, 4],
+            Scene::Experiments => [16, 3, 5, 24, 24, 12, 24, 50, 1, 8, 1, 2],
+            Scene::Mixed => [20, 12, 6, 16, 14, 3, 16, 40, 8, 8, 1, 8],
         };
         let sorts = [
             Attach,
@@ -71,6 +81,7 @@ impl Scene {
             Detach,
             Format,
             Ask,
+            RefusedAsk,
             Answer,
             Value,
             Setup,

@@ -1,0 +1,110 @@
+use super::bytes;
+use super::messages::{ANSWER_2 as ANSWER, ASK_2 as ASK, ATTACH_0 as ATTACH, FORMAT_2 as FORMAT, VALUE_4 as VALUE};
+use crate::log::LOG_RECORD;
+
+/// A log with the lines that are printed of it.
+pub struct LogExample {
+    /// What it shows.
+    pub name: &'static str,
+    /// The records: direction, zero and experiment number, which are bytes 4 to 7, then the message, all in hex.
+    records: &'static [(&'static str, &'static str)],
+    /// What is printed.
+    pub lines: &'static str,
+}
+
+impl LogExample {
+    /// The log's bytes. Times are any.
+    pub fn log(&self) -> Vec<u8> {
+        let mut log = Vec::new();
+        for (middle, message) in self.records {
+            let mut record = vec![0x04, 0x03, 0x02, 0x01];
+            record.extend(bytes(middle));
+            record.extend(bytes(message));
+            record.resize(LOG_RECORD, 0);
+            log.extend(record);
+        }
+        log
+    }
+}
+
+/// Logs with their lines.
+#[rustfmt::skip]
+pub const LOGS: &[LogExample] = &[
+    LogExample { name: "nothing", records: &[], lines: "total 0 refused 0\n" },
+    LogExample {
+        name: "the rules' example: an old log, with numbers 0",
+        records: &[
+            ("01 00 00 00", ATTACH), ("01 00 00 00", FORMAT), ("01 00 00 00", VALUE),
+            ("00 00 00 00", ASK), ("01 00 00 00", ANSWER), ("01 00 00 00", VALUE),
+        ],
+        lines: "1 0\n2 0\n3 14\n4 0\n5 0\n6 0 0 2 2 0 5\ntotal 6 refused 1\n",
+    },
+    LogExample {
+        name: "the same in an experiment: byte 6 is the low byte",
+        records: &[
+            ("01 00 2D 01", ATTACH), ("01 00 2D 01", FORMAT), ("01 00 2D 01", VALUE),
+            ("00 00 2D 01", ASK), ("01 00 2D 01", ANSWER), ("01 00 2D 01", VALUE),
+        ],
+        lines: "1 0\n2 0\n3 14\n4 0\n5 0\n6 0 0 2 2 301 5\ntotal 6 refused 1\n",
+    },
+    LogExample {
+        name: "only the number of the 41 counts",
+        records: &[
+            ("01 00 01 00", ATTACH), ("01 00 00 01", FORMAT), ("01 00 FF FF", VALUE),
+            ("00 00 02 01", ASK), ("01 00 03 00", ANSWER), ("01 00 04 00", VALUE),
+        ],
+        lines: "1 0\n2 0\n3 14\n4 0\n5 0\n6 0 0 2 2 258 5\ntotal 6 refused 1\n",
+    },
+    LogExample {
+        name: "the numbers 65535, 256 and 255",
+        records: &[
+            ("01 00 00 00", ATTACH), ("01 00 00 00", FORMAT),
+            ("00 00 FF FF", ASK), ("01 00 00 00", ANSWER), ("01 00 00 00", VALUE),
+            ("00 00 00 01", ASK), ("01 00 00 00", ANSWER), ("01 00 00 00", VALUE),
+            ("00 00 FF 00", ASK), ("01 00 00 00", ANSWER), ("01 00 00 00", VALUE),
+        ],
+        lines: "1 0\n2 0\n3 0\n4 0\n5 0 0 2 2 65535 5\n6 0\n7 0\n8 0 0 2 2 256 5\n9 0\n10 0\n11 0 0 2 2 255 5\n\
+                total 11 refused 0\n",
+    },
+    LogExample {
+        name: "states 0, 1 and 3 print 0, and state 2 the number that was kept",
+        records: &[
+            ("01 00 07 00", ATTACH), ("01 00 07 00", FORMAT), ("01 00 07 00", ANSWER), ("01 00 07 00", VALUE),
+            ("00 00 07 00", ASK), ("01 00 07 00", VALUE),
+            ("01 00 07 00", "0A 00 47 00 02 02 00 00 00 01"), ("01 00 07 00", VALUE),
+            ("01 00 08 00", ANSWER), ("01 00 08 00", VALUE),
+        ],
+        lines: "1 0\n2 0\n3 0\n4 0 0 2 0 0 5\n5 0\n6 0 0 2 1 0 5\n7 0\n8 0 0 2 3 0 5\n9 0\n10 0 0 2 2 7 5\n\
+                total 10 refused 0\n",
+    },
+    LogExample {
+        name: "damaged and refused askings leave no number: byte 5, a byte too many, mode 16, an absent port",
+        records: &[
+            ("01 00 00 00", ATTACH), ("01 00 00 00", FORMAT), ("00 00 09 00", ASK), ("01 00 00 00", ANSWER),
+            ("00 01 0A 00", ASK), ("02 00 0B 00", ASK), ("00 00 0C 00", "0A 00 41 00 02 01 00 00 00 01 01"),
+            ("00 00 0D 00", "0A 00 41 00 10 01 00 00 00 01"), ("00 00 0E 00", "0A 00 41 05 02 01 00 00 00 01"),
+            ("01 00 0F 00", VALUE),
+        ],
+        lines: "1 0\n2 0\n3 0\n4 0\n5 19\n6 19\n7 19\n8 7\n9 10\n10 0 0 2 2 9 5\ntotal 10 refused 5\n",
+    },
+    LogExample {
+        name: "a port attached again has no number",
+        records: &[
+            ("01 00 05 00", ATTACH), ("01 00 05 00", FORMAT), ("00 00 05 00", ASK), ("01 00 05 00", ANSWER),
+            ("01 00 05 00", VALUE), ("01 00 05 00", "05 00 04 00 00"), ("01 00 05 00", ATTACH),
+            ("01 00 05 00", FORMAT), ("01 00 05 00", ANSWER), ("01 00 05 00", VALUE),
+            ("00 00 06 00", ASK), ("01 00 05 00", ANSWER), ("01 00 05 00", VALUE),
+        ],
+        lines: "1 0\n2 0\n3 0\n4 0\n5 0 0 2 2 5 5\n6 0\n7 0\n8 0\n9 0\n10 0 0 2 0 0 5\n11 0\n12 0\n13 0 0 2 2 6 5\n\
+                total 13 refused 0\n",
+    },
+    LogExample {
+        name: "bytes 6 and 7 are not looked at by refusal 19, byte 5 is",
+        records: &[
+            ("00 00 FF FF", "03 00 12"), ("00 00 01 00", "03 00 12"), ("00 00 00 80", "03 00 12"),
+            ("00 01 00 00", "03 00 12"), ("00 FF FF FF", "03 00 12"), ("02 00 01 00", "03 00 12"),
+            ("01 00 FF FF", "03 00 12"), ("00 00 FF FF", ""),
+        ],
+        lines: "1 0\n2 0\n3 0\n4 19\n5 19\n6 19\n7 5\n8 1\ntotal 8 refused 5\n",
+    },
+];
