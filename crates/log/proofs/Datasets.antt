@@ -18,7 +18,7 @@ use Rattle.rules.specs.declared.Format.{Format}
 use Rattle.rules.specs.Judge.{widthOf}
 use Rattle.rules.specs.Answer as Answer
 use Rattle.rules.specs.Answer.{Answer}
-use Rattle.rules.specs.Dataset.{Dataset, Number, whole, float, stamped, floatDataset, datasetOf}
+use Rattle.rules.specs.Dataset.{Dataset, whole, float, stamped, floatDataset, datasetOf}
 use Rattle.log.specs.Dataset.{numberAt, numbersAt, finiteFrom}
 use Rattle.log.specs.Line.{refused, values, withNumber, followedBy, numbersFrom, withNumbers, valueLine}
 

@@ -1,15 +1,13 @@
 -- Experiment numbers: only an accepted 41's is kept; where all are 0, so is every value's.
-use Prim.Native.Nat.{ℕ, zero, _*_, _≤_}
-use mathlib.Core.Path.{_≡_, refl, sym, _∙_, ap, subst}
+use Prim.Native.Nat.{ℕ, _*_, _≤_}
+use mathlib.Core.Path.{_≡_, refl, sym, ap, subst}
 use mathlib.Core.Bool.{Bool, true, false, cond}
 use mathlib.Core.List.{List, [], _∷_, map}
 use mathlib.Core.Option.{Option, none, some}
-use mathlib.Core.Logic.{⊎-elim}
 use native.Mathlib.Omega.{arith}
 use lib.Dec.{eqb, ltb}
 use lib.Ieee.{binary32, ofBits}
-use lib.ListN.{length, replicate}
-use Rattle.protocol.proofs.Tests.{which}
+use lib.ListN.{length}
 use Rattle.protocol.specs.Number.{littleEndian, isFinite}
 use Rattle.protocol.specs.Decode as Decode
 use Rattle.protocol.specs.Decode.{decode, openOf}
@@ -17,23 +15,19 @@ use Rattle.protocol.specs.Answer.{messageOf}
 use Rattle.protocol.specs.declared.Way.{Way}
 use Rattle.protocol.specs.declared.Message.{Message}
 use Rattle.protocol.specs.declared.Message.the-variants as Message'
-use Rattle.rules.specs.Layout.{places}
 use Rattle.rules.specs.Answer.{Answer, refused, accepted, outcome, unlessRefused}
 use Rattle.rules.specs.Effect.{Change, Unchanged, Formatted, Answered, Asked, Effect, Nothing, ToPort, Attach, AttachVirtual, Detach, Value, Disconnect, Connect, Empty, emptiesTable, effectOf}
 use Rattle.rules.specs.Facts.{Format, Settings, Wiring, Unjoined, Joined, Virtual, Facts, Ports}
-use Rattle.rules.specs.ValueLookup.{ValueLookup, Found, Refused, withFormat, withMode, withFacts, valueExperiment, valueLookup}
-use Rattle.rules.specs.Judge.{widthOf, judge}
-use Rattle.rules.specs.Dataset.{Dataset, Number, float, floatDataset, datasetOf, valueDataset, acceptedDataset, datasetAnswer}
+use Rattle.rules.specs.ValueLookup.{ValueLookup, Found, Refused, withFormat, withFacts, valueExperiment, valueLookup}
+use Rattle.rules.specs.Judge.{judge}
+use Rattle.rules.specs.Dataset.{Dataset, datasetOf, valueDataset, acceptedDataset, datasetAnswer}
 use Rattle.rules.specs.Learn.{learn}
-use Rattle.rules.specs.Table.{Record, Table, viewOfTable, portsOfTable, insert, change, remove, wired, wiredAs, onSettings, dissolve, dissolveBy, detachBy, freed, apply}
+use Rattle.rules.specs.Table.{Record, Table, viewOfTable, portsOfTable, insert, change, remove, wired, wiredAs, onSettings, dissolveBy, detachBy, freed, apply}
 use Rattle.rules.specs.Cells.{tableAt, sound}
-use Rattle.rules.specs.Offer.{Entry, judgeReading, judgeEntry, datasetReading, datasetMessage, portsOfCells, offerByCells, appliedTo, cellsAfter, datasetByCells}
-use Rattle.rules.specs.Demand3.{EntryFits}
+use Rattle.rules.specs.Offer.{judgeReading, judgeEntry, datasetReading, datasetMessage, portsOfCells, offerByCells, appliedTo, cellsAfter, datasetByCells}
 use Rattle.rules.specs.Laws.{isAsking, acceptedAsking, numbered, NumberOfAskingOnly, NoNumbers, datasetExperiment, EmptyNoNumbers, StepKeepsNoNumbers, ValuesNoNumbers}
-use Rattle.rules.proofs.Lookup.{cond-ap}
-use Rattle.rules.proofs.Sound.{Sound}
 use Rattle.rules.proofs.CellsSound.{empty-table}
-use Rattle.rules.proofs.Offered.{Accepted, was-accepted, back, kept}
+use Rattle.rules.proofs.Offered.{was-accepted, back, kept}
 use Rattle.rules.proofs.Laws.{table-sound}
 
 -- ---- a message with two numbers

@@ -6,7 +6,6 @@ use mathlib.Core.Bool.{Bool, true, false, cond}
 use mathlib.Core.List.{List}
 use mathlib.Core.Logic.{_⊎_, inl, inr, ⊎-elim}
 use lib.ListN.{length, drop}
-use Rattle.protocol.specs.Rule.{between}
 use Rattle.protocol.specs.Form.{layout}
 use Rattle.protocol.specs.Decode.{accepted, openOf}
 use Rattle.protocol.specs.Answer.{formOf, valuesOf}

@@ -5,7 +5,7 @@ use mathlib.Core.Bool.{Bool, true, false, cond}
 use mathlib.Core.List.{List, [], _∷_}
 use lib.Dec.{ltb}
 use Rattle.protocol.specs.Number.{Bytes}
-use Rattle.protocol.specs.Rule.{Rule, between}
+use Rattle.protocol.specs.Rule.{Rule}
 use Rattle.protocol.specs.Field.{Field, number, highFirst, signed, float, fixed, Value, natural, integer, real, width}
 use Rattle.protocol.specs.Form
 use Rattle.protocol.specs.Form.{Form, layout}

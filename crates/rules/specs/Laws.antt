@@ -1,4 +1,5 @@
--- Laws of the table that come with demand 3. They are proved in proofs/Laws.antt.
+-- Laws of the table that come with demand 3. They are proved in proofs/Laws.antt, those of experiment numbers in
+-- proofs/Experiments.antt.
 use Prim.Native.Nat.{ℕ}
 use mathlib.Core.Path.{_≡_}
 use mathlib.Core.Bool.{Bool, true, false}

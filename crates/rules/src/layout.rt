@@ -1,10 +1,12 @@
 // Sizes of the port table, and where each number of a record lies among the cells of its place. A definition cannot name
 // a constant of the source, so `specs/Layout.antt` has these numbers under the same names.
 
-// Ports and modes are below these.
+// Ports, modes and experiment numbers are below these.
 pub const PORT_COUNT: u32 = 256;
 
 pub const MODE_COUNT: usize = 16;
+
+pub const EXPERIMENT_COUNT: u32 = 65536;
 
 // Records of a table, cells of a record's place, cells of a table.
 pub const PLACES: usize = 16;

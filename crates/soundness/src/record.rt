@@ -11,6 +11,7 @@ use rules::layout::ANSWERED;
 use rules::layout::ASKED;
 use rules::layout::DEVICE;
 use rules::layout::EXPERIMENT;
+use rules::layout::EXPERIMENT_COUNT;
 use rules::layout::FORMATS;
 use rules::layout::MODE_COUNT;
 use rules::layout::STATE;
@@ -85,7 +86,7 @@ fn experiment_fits(place: &[u32]) -> bool
     if place[ASKED] == 0 {
         return experiment == 0;
     }
-    experiment < 65536
+    experiment < EXPERIMENT_COUNT
 }
 
 // Whether what a port was told is within its lists, and the state and the experiment number go by their rules.
