@@ -1,10 +1,9 @@
 -- A log whose experiment numbers are 0: so are those of its values.
 use Prim.Native.Nat.{ℕ, zero, suc, _*_}
-use mathlib.Core.Path.{_≡_, refl, ap}
-use mathlib.Core.Bool.{Bool, true, false, cond}
+use mathlib.Core.Path.{_≡_, refl}
+use mathlib.Core.Bool.{true}
 use mathlib.Core.List.{List, [], _∷_, _++_}
 use mathlib.Core.Option.{Option, none, some}
-use lib.Dec.{ltb}
 use lib.ListN.{take, drop}
 use Rattle.protocol.specs.Form.{mostDatasets}
 use Rattle.protocol.specs.Number.{Bytes}
@@ -13,18 +12,18 @@ use Rattle.rules.specs.Answer as Answer
 use Rattle.rules.specs.Answer.{Answer}
 use Rattle.rules.specs.Cells.{tableAt, sound, emptyCells}
 use Rattle.rules.specs.Dataset.{Dataset}
-use Rattle.rules.specs.Demand3.{EntryFits}
 use Rattle.rules.specs.Laws.{NoNumbers, datasetExperiment}
-use Rattle.rules.specs.Layout.{experimentCount}
 use Rattle.rules.specs.Offer.{Entry, offerByCells, cellsAfter, datasetByCells}
 use Rattle.rules.specs.declared.Effect.{Effect}
 use Rattle.rules.specs.declared.Effect.the-variants as Effect'
 use Rattle.rules.proofs.Experiments.{empty-no-numbers, step-keeps-no-numbers, values-no-numbers}
-use Rattle.rules.proofs.Laws.{empty-sound, step-keeps-sound}
-use Rattle.log.specs.Record.{recordSize, front, messageSize, messageIn, experimentIn, entryOf, malformed}
+use Rattle.rules.proofs.Laws.{empty-sound}
+use Rattle.rules.proofs.SettingsFit.{either-way}
+use Rattle.log.specs.Record.{recordSize, experimentIn, entryOf, malformed}
 use Rattle.log.specs.Line.{Line, refused, numbersFrom, withNumbers, valueLine, acceptedLine, answerLine, entryLine, recordLine, cellsAfterRecord}
 use Rattle.log.specs.Output.{linesOf, records, lastLine, allLines}
 use Rattle.log.specs.Laws.{NumbersZero, lineExperiment, ValuesZero, NumberlessLog}
+use Rattle.log.proofs.AfterRecord.{entry-fits, record-keeps-sound}
 
 -- ---- a line
 
@@ -59,29 +58,20 @@ record Numberless (cells : List ℕ) : Type 0 where
 module _ (part : ℕ) (cells s : List ℕ) (k : Numberless cells) where
   record-zero : lineExperiment (recordLine part cells s) ≡ 0
   unfolding recordLine
-  record-zero = either (malformed part s)
-    where
-      e : Entry
-      e = entryOf part s
-
-      either : (b : Bool) → lineExperiment (cond b (refused 19) (entryLine cells e)) ≡ 0
-      either true = refl
-      either false = answer-zero (datasetByCells cells (e .way) (e .bytes)) (values-no-numbers cells (k .numbers) (e .way) (e .bytes) 0) (offerByCells cells e)
+  record-zero =
+      let e : Entry = entryOf part s in
+      either-way (λ (l : Line). lineExperiment l ≡ 0) (malformed part s) (refused 19) (entryLine cells e) refl
+      (answer-zero (datasetByCells cells (e .way) (e .bytes)) (values-no-numbers cells (k .numbers) (e .way) (e .bytes) 0) (offerByCells cells e))
 
   module _ (b : Bytes s) (plain : experimentIn s ≡ 0) where
-    entry-fits : EntryFits (entryOf part s)
-    unfolding messageIn
-    entry-fits = (Bytes-take (messageSize part s) (drop front s) (Bytes-drop front s b), ap (λ (n : ℕ). ltb n experimentCount) plain)
-
     after-record : Numberless (cellsAfterRecord part cells s)
     unfolding cellsAfterRecord
-    after-record = either (malformed part s)
-      where
-        either : (t : Bool) → Numberless (cond t cells (cellsAfter cells (entryOf part s)))
-        either true = k
-        either false = record {
-          good = step-keeps-sound cells (entryOf part s) entry-fits (k .good);
-          numbers = step-keeps-no-numbers cells (entryOf part s) entry-fits (k .good) plain (k .numbers);
+    after-record =
+        record {
+          good = record-keeps-sound part cells s b (k .good);
+          numbers =
+              either-way (λ (c : List ℕ). NoNumbers (tableAt c)) (malformed part s) cells (cellsAfter cells (entryOf part s)) (k .numbers)
+              (step-keeps-no-numbers cells (entryOf part s) (entry-fits part s b) (k .good) plain (k .numbers));
         }
 
 -- ---- all records

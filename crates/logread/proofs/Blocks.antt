@@ -6,17 +6,20 @@ use mathlib.Core.Bool.{Bool, true}
 use mathlib.Core.List.{List}
 use lib.ListN.{length, getD, take}
 use Rattle.protocol.specs.Overwrite.{overwrite}
+use Rattle.protocol.proofs.Bytes.{Bytes-take, Bytes-drop}
 use Rattle.rules.specs.Answer.{Answer, refused, accepted}
 use Rattle.rules.specs.Cells.{sound}
 use Rattle.log.specs.Record.{recordSize}
 use Rattle.log.specs.Cutting.{Run, worked, printed}
 use Rattle.log.specs.Block.{blockRecords}
+use Rattle.log.proofs.AfterRecord.{record-keeps-sound}
 use Rattle.log.proofs.OneMore.{cells-next, nextRecord}
+use Rattle.log_lines.proofs.ValueLines.{all-bytes}
 use Rattle.table.specs.BlockAnswer as Table
 use Rattle.table.specs.BlockAnswer.{answerOf, blockAnswer, blockCells, blockFits, blockText, progress}
 use Rattle.table.specs.declared.block.Block.{Block}
 use Rattle.table.specs.declared.block.Block.the-variants as Block'
-use Rattle.table.proofs.LogBlocks.{sound-block, record-keeps-sound, part-bytes}
+use Rattle.table.proofs.LogBlocks.{sound-block}
 use Rattle.logread.specs.Reading.{BlockDone, Printable, someLines}
 use Rattle.logread.proofs.Moving.{front-text}
 
@@ -25,7 +28,7 @@ pub worked-sound : (r : Run) (n : ℕ) → sound (r .cells) ≡ true → ((k : �
 worked-sound r zero good bytes = good
 worked-sound r (suc n) good bytes =
     ap sound (cells-next 128 r n)
-    ∙ record-keeps-sound (worked 128 n r .cells) (nextRecord 128 r n) (λ (k : ℕ). part-bytes (r .rest) (n * recordSize 128) (recordSize 128) k bytes) (worked-sound r n good bytes)
+    ∙ record-keeps-sound 128 (worked 128 n r .cells) (nextRecord 128 r n) (Bytes-take (recordSize 128) (worked 128 n r .rest) (Bytes-drop (n * recordSize 128) (r .rest) (all-bytes (r .rest) bytes))) (worked-sound r n good bytes)
 
 -- what an accepted answer gives
 abbrev given : Answer Table.Progress → Table.Progress

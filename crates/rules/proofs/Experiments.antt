@@ -21,11 +21,13 @@ use Rattle.rules.specs.Facts.{Format, Settings, Wiring, Unjoined, Joined
 use Rattle.rules.specs.ValueLookup.{ValueLookup, Found, Refused, withFormat, withFacts, valueExperiment, valueLookup}
 use Rattle.rules.specs.Judge.{judge}
 use Rattle.rules.specs.Dataset.{Dataset, datasetOf, valueDataset, acceptedDataset, datasetAnswer}
+use Rattle.rules.specs.Latest.{askingNumber, orZero}
 use Rattle.rules.specs.Learn.{learn}
 use Rattle.rules.specs.Table.{Record, Table, viewOfTable, portsOfTable, insert, change, remove, wired, wiredAs, onSettings, dissolveBy, detachBy, freed, apply}
 use Rattle.rules.specs.Cells.{tableAt, sound}
 use Rattle.rules.specs.Offer.{judgeReading, judgeEntry, datasetReading, datasetMessage, portsOfCells, offerByCells, appliedTo, cellsAfter, datasetByCells}
 use Rattle.rules.specs.Laws.{isAsking, acceptedAsking, numbered, NumberOfAskingOnly, NoNumbers, datasetExperiment, EmptyNoNumbers, StepKeepsNoNumbers, ValuesNoNumbers}
+use Rattle.rules.proofs.SettingsFit.{either-way}
 use Rattle.rules.proofs.CellsSound.{empty-table}
 use Rattle.rules.proofs.Offered.{was-accepted, back, kept}
 use Rattle.rules.proofs.Laws.{table-sound}
@@ -33,15 +35,9 @@ use Rattle.rules.proofs.Laws.{table-sound}
 -- ---- a message with two numbers
 
 -- the number that a message hands on; 0 where it hands on none
-abbrev changeNumber : Change → ℕ
-changeNumber Unchanged = 0
-changeNumber (Formatted mode f) = 0
-changeNumber (Answered s) = 0
-changeNumber (Asked s n) = n
-
 abbrev effectNumber : Effect → ℕ
 effectNumber Nothing = 0
-effectNumber (ToPort port c) = changeNumber c
+effectNumber (ToPort port c) = orZero (askingNumber c)
 effectNumber (Attach port device) = 0
 effectNumber (AttachVirtual port device a b) = 0
 effectNumber (Detach port) = 0
@@ -50,59 +46,60 @@ effectNumber (Disconnect port) = 0
 effectNumber (Connect a b) = 0
 effectNumber Empty = 0
 
-record Alike (n m : ℕ) (message : Message) : Type 0 where
+-- a message with two numbers is judged alike and has the same datasets; where it is no asking it is the same to a table
+record TwoNumbers (n m : ℕ) (message : Message) : Type 0 where
   judges : (ports : Ports) (count : ℕ) → judge ports (effectOf n message) count ≡ judge ports (effectOf m message) count
-  effects : isAsking (effectOf n message) ≡ false → effectOf n message ≡ effectOf m message
   datasets : (ports : Ports) (bytes : List ℕ) (k : ℕ) → datasetAnswer ports (effectOf n message) bytes k ≡ datasetAnswer ports (effectOf m message) bytes k
+  effects : isAsking (effectOf n message) ≡ false → effectOf n message ≡ effectOf m message
   number : effectNumber (effectOf n message) ≤ n
 
--- it is the same to a table
-alike : (n m : ℕ) (message : Message) → effectOf n message ≡ effectOf m message → effectNumber (effectOf n message) ≡ 0 → Alike n m message
-alike n m message e none-told = record { judges = λ ports count. ap (λ (x : Effect). judge ports x count) e; effects = λ h. e; datasets = λ ports bytes k. ap (λ (x : Effect). datasetAnswer ports x bytes k) e; number = omega arith }
+no-asking : {n m : ℕ} {message : Message} → effectOf n message ≡ effectOf m message → effectNumber (effectOf n message) ≡ 0 → TwoNumbers n m message
+no-asking e none-told = record {
+  judges = λ ports count. ap (λ (x : Effect). judge ports x count) e;
+  datasets = λ ports bytes k. ap (λ (x : Effect). datasetAnswer ports x bytes k) e;
+  effects = λ h. e;
+  number = omega (arith, none-told);
+}
 
-action-number : (b : Bool) → effectNumber (cond b Empty Nothing) ≡ 0
-action-number true = refl
-action-number false = refl
-
-both : (n m : ℕ) (message : Message) → Alike n m message
+two-numbers : (n m : ℕ) (message : Message) → TwoNumbers n m message
 unfolding effectOf judge datasetAnswer
-both n m (Message'.PropertyCommand p o) = alike n m (Message'.PropertyCommand p o) refl refl
-both n m (Message'.PropertyText p o) = alike n m (Message'.PropertyText p o) refl refl
-both n m (Message'.PropertyByte p o v) = alike n m (Message'.PropertyByte p o v) refl refl
-both n m (Message'.PropertyRssi o v) = alike n m (Message'.PropertyRssi o v) refl refl
-both n m (Message'.PropertyVersion p o v) = alike n m (Message'.PropertyVersion p o v) refl refl
-both n m (Message'.PropertyProtocol o v) = alike n m (Message'.PropertyProtocol o v) refl refl
-both n m (Message'.PropertyAddress p o v) = alike n m (Message'.PropertyAddress p o v) refl refl
-both n m (Message'.HubAction a) = alike n m (Message'.HubAction a) refl (action-number (emptiesTable a))
-both n m (Message'.AlertCommand a o) = alike n m (Message'.AlertCommand a o) refl refl
-both n m (Message'.AlertUpdate a v) = alike n m (Message'.AlertUpdate a v) refl refl
-both n m (Message'.Detached p) = alike n m (Message'.Detached p) refl refl
-both n m (Message'.Attached p d h v) = alike n m (Message'.Attached p d h v) refl refl
-both n m (Message'.AttachedVirtual p d a b) = alike n m (Message'.AttachedVirtual p d a b) refl refl
-both n m (Message'.GenericError c e) = alike n m (Message'.GenericError c e) refl refl
-both n m Message'.GoIntoBootMode = alike n m Message'.GoIntoBootMode refl refl
-both n m Message'.LockMemory = alike n m Message'.LockMemory refl refl
-both n m Message'.LockStatusRequest = alike n m Message'.LockStatusRequest refl refl
-both n m (Message'.LockStatus v) = alike n m (Message'.LockStatus v) refl refl
-both n m (Message'.PortInformationRequest p i) = alike n m (Message'.PortInformationRequest p i) refl refl
-both n m (Message'.ModeInformationRequest p k i) = alike n m (Message'.ModeInformationRequest p k i) refl refl
-both n m (Message'.InputFormatSetup p k d o) = record { judges = λ ports count. refl; effects = λ h. let z : _≡_ {A = ℕ} 0 1 = cc in absurd (omega arith); datasets = λ ports bytes i. refl; number = omega arith }
-both n m (Message'.PortModes p c k i o) = alike n m (Message'.PortModes p c k i o) refl refl
-both n m (Message'.PortCombinations p c) = alike n m (Message'.PortCombinations p c) refl refl
-both n m (Message'.ModeText p k i) = alike n m (Message'.ModeText p k i) refl refl
-both n m (Message'.ModeRange p k i l h) = alike n m (Message'.ModeRange p k i l h) refl refl
-both n m (Message'.ModeMapping p k v) = alike n m (Message'.ModeMapping p k v) refl refl
-both n m (Message'.ModeBias p k v) = alike n m (Message'.ModeBias p k v) refl refl
-both n m (Message'.ModeCapabilities p k v) = alike n m (Message'.ModeCapabilities p k v) refl refl
-both n m (Message'.ValueFormat p k c d f e) = alike n m (Message'.ValueFormat p k c d f e) refl refl
-both n m (Message'.PortValue p) = alike n m (Message'.PortValue p) refl refl
-both n m (Message'.InputFormat p k d o) = alike n m (Message'.InputFormat p k d o) refl refl
-both n m (Message'.VirtualDisconnect p) = alike n m (Message'.VirtualDisconnect p) refl refl
-both n m (Message'.VirtualConnect a b) = alike n m (Message'.VirtualConnect a b) refl refl
+two-numbers n m (Message'.PropertyCommand p o) = no-asking refl refl
+two-numbers n m (Message'.PropertyText p o) = no-asking refl refl
+two-numbers n m (Message'.PropertyByte p o v) = no-asking refl refl
+two-numbers n m (Message'.PropertyRssi o v) = no-asking refl refl
+two-numbers n m (Message'.PropertyVersion p o v) = no-asking refl refl
+two-numbers n m (Message'.PropertyProtocol o v) = no-asking refl refl
+two-numbers n m (Message'.PropertyAddress p o v) = no-asking refl refl
+two-numbers n m (Message'.HubAction a) = no-asking refl (either-way (λ (x : Effect). effectNumber x ≡ 0) (emptiesTable a) Empty Nothing refl refl)
+two-numbers n m (Message'.AlertCommand a o) = no-asking refl refl
+two-numbers n m (Message'.AlertUpdate a v) = no-asking refl refl
+two-numbers n m (Message'.Detached p) = no-asking refl refl
+two-numbers n m (Message'.Attached p d h v) = no-asking refl refl
+two-numbers n m (Message'.AttachedVirtual p d a b) = no-asking refl refl
+two-numbers n m (Message'.GenericError c e) = no-asking refl refl
+two-numbers n m Message'.GoIntoBootMode = no-asking refl refl
+two-numbers n m Message'.LockMemory = no-asking refl refl
+two-numbers n m Message'.LockStatusRequest = no-asking refl refl
+two-numbers n m (Message'.LockStatus v) = no-asking refl refl
+two-numbers n m (Message'.PortInformationRequest p i) = no-asking refl refl
+two-numbers n m (Message'.ModeInformationRequest p k i) = no-asking refl refl
+two-numbers n m (Message'.InputFormatSetup p k d o) = record { judges = λ ports count. refl; datasets = λ ports bytes i. refl; effects = λ h. let z : _≡_ {A = ℕ} 0 1 = cc in absurd (omega arith); number = omega arith }
+two-numbers n m (Message'.PortModes p c k i o) = no-asking refl refl
+two-numbers n m (Message'.PortCombinations p c) = no-asking refl refl
+two-numbers n m (Message'.ModeText p k i) = no-asking refl refl
+two-numbers n m (Message'.ModeRange p k i l h) = no-asking refl refl
+two-numbers n m (Message'.ModeMapping p k v) = no-asking refl refl
+two-numbers n m (Message'.ModeBias p k v) = no-asking refl refl
+two-numbers n m (Message'.ModeCapabilities p k v) = no-asking refl refl
+two-numbers n m (Message'.ValueFormat p k c d f e) = no-asking refl refl
+two-numbers n m (Message'.PortValue p) = no-asking refl refl
+two-numbers n m (Message'.InputFormat p k d o) = no-asking refl refl
+two-numbers n m (Message'.VirtualDisconnect p) = no-asking refl refl
+two-numbers n m (Message'.VirtualConnect a b) = no-asking refl refl
 
 -- handing out takes any number
 pub same-datasets : (n m : ℕ) (message : Message) (ports : Ports) (bytes : List ℕ) (k : ℕ) → datasetAnswer ports (effectOf n message) bytes k ≡ datasetAnswer ports (effectOf m message) bytes k
-same-datasets n m message = both n m message .datasets
+same-datasets n m message = two-numbers n m message .datasets
 
 -- two answers: accepted alike, and the cells after them
 record Close (cells : List ℕ) (a b : Answer Effect) : Type 0 where
@@ -125,7 +122,7 @@ close-reading cells ports s n m (Decode.refused k place) = close-refl cells (ref
 close-reading cells ports s n m (Decode.accepted f vs) =
     let message : Message = messageOf f vs in
     let count : ℕ = length (openOf s (Decode.accepted f vs)) in
-    let two = both n m message in
+    let two = two-numbers n m message in
     close-unless cells (judge ports (effectOf n message) count) (judge ports (effectOf m message) count) (effectOf n message) (effectOf m message) (two .judges ports count) (two .effects)
 
 close-offers : (cells : List ℕ) (way : Way) (bytes : List ℕ) (n m : ℕ) → Close cells (offerByCells cells (numbered way bytes n)) (offerByCells cells (numbered way bytes m))
@@ -145,20 +142,12 @@ number-of-asking-only cells way bytes n m = let k = close-offers cells way bytes
 no-change : (port : ℕ) (g : Facts → Facts) (t : Table) → ((f : Facts) → f .settings .experiment ≡ 0 → g f .settings .experiment ≡ 0) → NoNumbers t → NoNumbers (change port g t)
 no-change port g [] keeps k = tt
 no-change port g (none ∷ t) keeps k = no-change port g t keeps k
-no-change port g (some r ∷ t) keeps k = (either (eqb (r .port) port), no-change port g t keeps (k .1))
-  where
-    either : (b : Bool) → cond b (g (r .facts)) (r .facts) .settings .experiment ≡ 0
-    either true = keeps (r .facts) (k .0)
-    either false = k .0
+no-change port g (some r ∷ t) keeps k = (either-way (λ (f : Facts). f .settings .experiment ≡ 0) (eqb (r .port) port) (g (r .facts)) (r .facts) (keeps (r .facts) (k .0)) (k .0), no-change port g t keeps (k .1))
 
 no-remove : (port : ℕ) (t : Table) → NoNumbers t → NoNumbers (remove port t)
 no-remove port [] k = tt
 no-remove port (none ∷ t) k = no-remove port t k
-no-remove port (some r ∷ t) k = either (eqb (r .port) port) (no-remove port t (k .1))
-  where
-    either : (b : Bool) → NoNumbers (remove port t) → NoNumbers (cond b none (some r) ∷ remove port t)
-    either true rest = rest
-    either false rest = (k .0, rest)
+no-remove port (some r ∷ t) k = let rest = no-remove port t (k .1) in either-way (λ (p : Option Record). NoNumbers (p ∷ remove port t)) (eqb (r .port) port) none (some r) rest (k .0, rest)
 
 no-insert : (new : Record) (t : Table) → new .facts .settings .experiment ≡ 0 → NoNumbers t → NoNumbers (insert new t)
 no-insert new [] e k = tt
@@ -182,7 +171,7 @@ no-detach port Unjoined t k = no-remove port t k
 no-detach port (Joined v) t k = let w = wiredAs (viewOfTable t v) in no-remove port (dissolveBy v w t) (no-dissolve v w t k)
 no-detach port (Virtual a b) t k = no-dissolve port (Virtual a b) t k
 
-no-learn : (c : Change) → changeNumber c ≡ 0 → (s : Settings) → s .experiment ≡ 0 → learn c s .experiment ≡ 0
+no-learn : (c : Change) → orZero (askingNumber c) ≡ 0 → (s : Settings) → s .experiment ≡ 0 → learn c s .experiment ≡ 0
 unfolding learn
 no-learn Unchanged z s e = e
 no-learn (Formatted mode f) z s e = e
@@ -210,7 +199,7 @@ step-keeps-no-numbers cells e b s plain k = rw s (go (judgeEntry (portsOfTable (
     go (accepted x) j =
         let t : Table = tableAt cells in
         let a = was-accepted (portsOfTable t) e x j in
-        let most = both (e .experiment) 0 (messageOf (a .form) (a .values)) .number in
+        let most = two-numbers (e .experiment) 0 (messageOf (a .form) (a .values)) .number in
         let is : effectNumber x ≡ effectNumber (effectOf (e .experiment) (messageOf (a .form) (a .values))) = ap effectNumber (a .is) in
         let none-told : effectNumber x ≡ 0 = omega (arith, most, is, plain) in
         subst NoNumbers (sym (back (apply x t) (kept t (table-sound cells s) e b x j))) (no-apply x none-told t k)
@@ -228,27 +217,17 @@ no-lookup : (f : Facts) (mode : Option ℕ) → f .settings .experiment ≡ 0 �
 no-lookup f none e = refl
 no-lookup f (some mode) e = go (f .settings .formats mode)
   where
-    in-state : (b : Bool) → cond b (f .settings .experiment) 0 ≡ 0
-    in-state true = e
-    in-state false = refl
-
     go : (x : Option Format) → lookupNumber (withFormat mode (f .settings .state) (valueExperiment (f .settings)) x) ≡ 0
     go none = refl
-    go (some x) = in-state (eqb (f .settings .state) 2)
+    go (some x) = either-way (λ (n : ℕ). n ≡ 0) (eqb (f .settings .state) 2) (f .settings .experiment) 0 e refl
 
 no-view : (t : Table) → NoNumbers t → (q : ℕ) (mode : Option ℕ) → lookupNumber (withFacts (viewOfTable t q) mode) ≡ 0
 no-view [] k q mode = refl
 no-view (none ∷ t) k q mode = no-view t k q mode
-no-view (some r ∷ t) k q mode = either (eqb (r .port) q) (no-view t (k .1) q mode)
-  where
-    either : (b : Bool) → lookupNumber (withFacts (viewOfTable t q) mode) ≡ 0 → lookupNumber (withFacts (cond b (some (r .facts)) (viewOfTable t q)) mode) ≡ 0
-    either true rest = no-lookup (r .facts) mode (k .0)
-    either false rest = rest
+no-view (some r ∷ t) k q mode = either-way (λ (x : Option Facts). lookupNumber (withFacts x mode) ≡ 0) (eqb (r .port) q) (some (r .facts)) (viewOfTable t q) (no-lookup (r .facts) mode (k .0)) (no-view t (k .1) q mode)
 
--- what a test of a choice leaves
 no-choice : (b : Bool) (x y : Answer Dataset) → datasetExperiment x ≡ 0 → datasetExperiment y ≡ 0 → datasetExperiment (cond b x y) ≡ 0
-no-choice true x y e f = e
-no-choice false x y e f = f
+no-choice = either-way (λ (a : Answer Dataset). datasetExperiment a ≡ 0)
 
 no-dataset : (port : ℕ) (l : ValueLookup) → lookupNumber l ≡ 0 → (bytes : List ℕ) (n : ℕ) → datasetExperiment (valueDataset port l bytes n) ≡ 0
 unfolding datasetOf

@@ -23,6 +23,11 @@ five-passed a b c d e h =
     let ab = and-left (a && b) c abc in
     (and-left a b ab, and-right a b ab, and-right (a && b) c abc, and-right (a && b && c) d abcd, and-right (a && b && c && d) e h)
 
+-- what holds of both is so of the one that is chosen
+pub either-way : {A : Type 0} (P : A → Type 0) (b : Bool) (x y : A) → P x → P y → P (cond b x y)
+either-way P true x y p q = p
+either-way P false x y p q = q
+
 -- no format of a mode past the last
 abbrev pub NoHigh : (ℕ → Option Format) → Type 0
 NoHigh formats = (m : ℕ) → modeCount ≤ m → formats m ≡ none
@@ -52,14 +57,10 @@ bare-fits = record { lists = refl; high = λ m h. refl }
 
 -- ---- a format
 
-format-cond : (b : Bool) (x y : Option Format) → formatFits x ≡ true → formatFits y ≡ true → formatFits (cond b x y) ≡ true
-format-cond true x y p q = p
-format-cond false x y p q = q
-
 formats-set : (n mode : ℕ) (new : Format) (formats : ℕ → Option Format) → formatFits (some new) ≡ true → formatsFit n formats ≡ true → formatsFit n (λ m. cond (eqb mode m) (some new) (formats m)) ≡ true
 formats-set zero mode new formats good e = refl
 formats-set (suc n) mode new formats good e =
-    rw (format-cond (eqb mode n) (some new) (formats n) good (and-left (formatFits (formats n)) (formatsFit n formats) e)) (formats-set n mode new formats good (and-right (formatFits (formats n)) (formatsFit n formats) e))
+    rw (either-way (λ (x : Option Format). formatFits x ≡ true) (eqb mode n) (some new) (formats n) good (and-left (formatFits (formats n)) (formatsFit n formats) e)) (formats-set n mode new formats good (and-right (formatFits (formats n)) (formatsFit n formats) e))
 
 -- ---- the state
 

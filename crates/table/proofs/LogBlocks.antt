@@ -5,19 +5,13 @@ use mathlib.Core.Path.{_≡_, refl, sym, _∙_, ap, subst}
 use mathlib.Core.Bool.{Bool, true, false, cond, not, _&&_}
 use mathlib.Core.List.{List, _++_}
 use mathlib.Core.Logic.{⊎-elim}
-use borrow.Author.Tests.{lt-ltb, le-ltb, eqb-true, eqb-false, leb-true, ltb-true, ltb-false}
+use borrow.Author.Tests.{lt-ltb, le-ltb, eqb-true, eqb-false, leb-true, ltb-true}
 use lib.Dec.{eqb, leb, ltb}
-use lib.ListN.{length, getD, take, drop, length-append, length-take, length-drop, List·getD-eq-default}
-use lib.Seq.{getD-take, getD-drop}
-use Rattle.protocol.specs.Number.{Bytes, littleEndian}
-use Rattle.protocol.proofs.Bytes.{Bytes-take, Bytes-drop}
+use lib.ListN.{length, take, drop, length-append, length-drop}
 use Rattle.protocol.proofs.Tests.{which, and-left, and-right}
-use Rattle.rules.specs.Layout.{experimentCount}
 use Rattle.rules.specs.Cells.{sound}
-use Rattle.rules.specs.Offer.{cellsAfter}
-use Rattle.rules.proofs.Laws.{step-keeps-sound}
 use Rattle.log.specs.Decimal.{lineText}
-use Rattle.log.specs.Record.{front, recordSize, entryOf, malformed, messageSize, messageIn, experimentIn}
+use Rattle.log.specs.Record.{front, recordSize}
 use Rattle.log.specs.Line.{Line, recordLine, cellsAfterRecord, refusalOf, numbersOf}
 use Rattle.protocol.specs.Overwrite.{overwrite}
 use Rattle.log.specs.Cutting.{Run, worked, printed}
@@ -28,7 +22,6 @@ use Rattle.log.proofs.OneMore.{nextRecord, nextLine, cells-next, lines-next, re
 use Rattle.rules.specs.Answer.{refused, accepted}
 use Rattle.table.specs.BlockAnswer.{progress, blockAnswer, blockCells, blockText}
 use Rattle.log_lines.specs.LogLine.{PrintedAs}
-use Rattle.log_lines.proofs.ValueLines.{all-bytes}
 
 -- ---- four tests in a row
 
@@ -187,36 +180,6 @@ module _ (r : Run) (out₀ table out : List ℕ) (taken written count bad : ℕ)
   finished stops =
       let is : k .through ≡ total = all-done stops in
       ((λ i. record { taken = k .took i; written = k .ends i; lines = k .lines i; refused = k .refused i }) ∙ ap (progress 128 r) is, k .cells ∙ ap (λ (n : ℕ). worked 128 n r .cells) is, k .text ∙ ap (λ (n : ℕ). overwrite out₀ 0 (printed 128 n r)) is, (k .there, k .room))
-
--- the bytes of a record's message are bytes
-message-bytes : (s : List ℕ) → ((k : ℕ) → getD s k 0 < 256) → Bytes (messageIn 128 s)
-unfolding messageIn
-message-bytes s h = Bytes-take (messageSize 128 s) (drop front s) (Bytes-drop front s (all-bytes s h))
-
-experiment-below : (s : List ℕ) → ((k : ℕ) → getD s k 0 < 256) → experimentIn s < experimentCount
-unfolding experimentIn littleEndian
-experiment-below s h = omega (arith, h 6, h 7)
-
--- every record keeps a sound table sound
-pub record-keeps-sound : (cells s : List ℕ) → ((n : ℕ) → getD s n 0 < 256) → sound cells ≡ true → sound (cellsAfterRecord 128 cells s) ≡ true
-unfolding cellsAfterRecord
-record-keeps-sound cells s bytes good = go (malformed 128 s)
-  where
-    go : (b : Bool) → sound (cond b cells (cellsAfter cells (entryOf 128 s))) ≡ true
-    go true = good
-    go false = step-keeps-sound cells (entryOf 128 s) (message-bytes s bytes, lt-ltb (experimentIn s) experimentCount (experiment-below s bytes)) good
-
--- a part of bytes is bytes
-pub part-bytes : (s : List ℕ) (from size n : ℕ) → ((k : ℕ) → getD s k 0 < 256) → getD (take size (drop from s)) n 0 < 256
-part-bytes s from size n h =
-    ⊎-elim
-    (λ (x : ltb n size ≡ true).
-    let is : getD (take size (drop from s)) n 0 ≡ getD s (from + n) 0 = getD-take size (drop from s) n 0 (ltb-true n size x) ∙ getD-drop from s n 0 in
-    omega (arith, is, h (from + n)))
-    (λ (x : ltb n size ≡ false).
-    let none : getD (take size (drop from s)) n 0 ≡ 0 = List·getD-eq-default (take size (drop from s)) 0 (omega (arith, length-take size (drop from s), ltb-false n size x)) in
-    omega (arith, none))
-    (which (ltb n size))
 
 at-most-one : (n : ℕ) (b : Bool) → n ≡ cond b 0 1 → n ≤ 1
 at-most-one n true e = omega arith
