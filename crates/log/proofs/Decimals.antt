@@ -3,7 +3,7 @@ use Prim.Native.Nat.{ℕ, zero, suc, _+_, _/_, _%_, _^_, _≤_, _<_}
 use native.Mathlib.Nat.{pow-zero, pow-suc}
 use native.Mathlib.Omega.{arith}
 use mathlib.Core.Path.{_≡_, refl, _∙_, ap}
-use mathlib.Core.Bool.{true, false}
+use mathlib.Core.Bool.{Bool, true, false}
 use mathlib.Core.List.{List, [], _∷_, _++_}
 use mathlib.Core.Logic.{⊎-elim}
 use lib.Dec.{ltb}
@@ -13,25 +13,24 @@ use Rattle.protocol.proofs.Tests.{which}
 use Rattle.log.specs.Decimal.{digit, decimalBy, decimal}
 
 -- any bound above the number gives the same digits
-fuel : (f g n : ℕ) → n < f → n < g → decimalBy f n ≡ decimalBy g n
-fuel zero g n h k = absurd (omega arith)
-fuel (suc f) zero n h k = absurd (omega arith)
-fuel (suc f) (suc g) n h k =
-    ⊎-elim
-    (λ (e : ltb n 10 ≡ true). rw e refl)
-    (λ (e : ltb n 10 ≡ false). rw e (ap (λ (l : List ℕ). l ++ (digit (n % 10) ∷ [])) (fuel f g (n / 10) (omega (arith, ltb-false n 10 e)) (omega (arith, ltb-false n 10 e)))))
-    (which (ltb n 10))
+fuel : (f g n : ℕ) → n < f → n < g → (small : Bool) → ltb n 10 ≡ small → decimalBy f small n ≡ decimalBy g small n
+fuel zero g n h k small e = absurd (omega arith)
+fuel (suc f) zero n h k small e = absurd (omega arith)
+fuel (suc f) (suc g) n h k true e = refl
+fuel (suc f) (suc g) n h k false e =
+    ap (λ (l : List ℕ). l ++ (digit (n % 10) ∷ [])) (fuel f g (n / 10) (omega (arith, ltb-false n 10 e)) (omega (arith, ltb-false n 10 e)) (ltb (n / 10) 10) refl)
 
 -- one digit
 pub decimal-one : (n : ℕ) → n < 10 → decimal n ≡ digit n ∷ []
 unfolding decimal
-decimal-one n h = rw (lt-ltb n 10 h) refl
+decimal-one n h = ap (λ (small : Bool). decimalBy (suc n) small n) (lt-ltb n 10 h)
 
 -- the last digit, and those before it
 pub decimal-more : (n : ℕ) → 10 ≤ n → decimal n ≡ decimal (n / 10) ++ (digit (n % 10) ∷ [])
 unfolding decimal
 decimal-more n h =
-    rw (le-ltb n 10 h) (ap (λ (l : List ℕ). l ++ (digit (n % 10) ∷ [])) (fuel n (suc (n / 10)) (n / 10) (omega arith) (omega arith)))
+    ap (λ (small : Bool). decimalBy (suc n) small n) (le-ltb n 10 h)
+    ∙ ap (λ (l : List ℕ). l ++ (digit (n % 10) ∷ [])) (fuel n (suc (n / 10)) (n / 10) (omega arith) (omega arith) (ltb (n / 10) 10) refl)
 
 -- how many digits
 

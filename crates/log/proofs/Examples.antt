@@ -1,5 +1,6 @@
 -- The examples of logs, by computing.
 use mathlib.Core.Path.{refl}
+use lib.Ieee.{ofBits, toBits}
 use Rattle.protocol.specs.Decode.{decode, decodeWay, decodeType, decodeForm}
 use Rattle.protocol.specs.Form.{layout}
 use Rattle.protocol.specs.Number.{littleEndian, bigEndian}
@@ -17,11 +18,15 @@ use Rattle.log.specs.Decimal.{decimal}
 use Rattle.log.specs.Record.{messageIn, experimentIn, malformed}
 use Rattle.log.specs.Line.{valueLine, recordLine, cellsAfterRecord}
 use Rattle.log.specs.Output.{allLines, totalText, output}
-use Rattle.log.specs.Examples.{RecordExperiment, ValuesLine, SixRecords, OtherRecords, EmptyInput}
+use Rattle.log.specs.Examples.{RecordExperiment, SignedText, ValuesLine, SixRecords, OtherRecords, SignedRecords, EmptyInput}
 
 pub record-experiment : RecordExperiment
 unfolding littleEndian bigEndian experimentIn
 record-experiment = refl
+
+pub signed-text : SignedText
+unfolding decimal
+signed-text = (refl, refl)
 
 pub values-line : ValuesLine
 values-line = refl
@@ -33,6 +38,10 @@ six-records = refl
 pub other-records : OtherRecords
 unfolding decode decodeWay decodeType decodeForm layout littleEndian types hubAttachedIo portModeInformation effectOf valueLookup judge datasetOf datasetAnswer learn apply wellFormed recordCells cellsOf recordAt tableAt sound emptyCells judgeEntry datasetMessage offerByCells cellsAfter datasetByCells decimal messageIn experimentIn malformed valueLine recordLine cellsAfterRecord allLines totalText output
 other-records = refl
+
+pub signed-records : SignedRecords
+unfolding decode decodeWay decodeType decodeForm layout littleEndian ofBits toBits types hubAttachedIo portModeInformation effectOf valueLookup judge datasetOf datasetAnswer learn apply wellFormed recordCells cellsOf recordAt tableAt sound emptyCells judgeEntry datasetMessage offerByCells cellsAfter datasetByCells decimal messageIn experimentIn malformed valueLine recordLine cellsAfterRecord allLines totalText output
+signed-records = refl
 
 pub empty-input : EmptyInput
 unfolding decimal allLines totalText output

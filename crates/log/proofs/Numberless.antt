@@ -4,6 +4,7 @@ use mathlib.Core.Path.{_≡_, refl}
 use mathlib.Core.Bool.{true}
 use mathlib.Core.List.{List, [], _∷_, _++_}
 use mathlib.Core.Option.{Option, none, some}
+use lib.IntN.{ℤ}
 use lib.ListN.{take, drop}
 use Rattle.protocol.specs.Form.{mostDatasets}
 use Rattle.protocol.specs.Number.{Bytes}
@@ -27,7 +28,7 @@ use Rattle.log.proofs.AfterRecord.{entry-fits, record-keeps-sound}
 
 -- ---- a line
 
-with-zero : (a : Answer Dataset) → datasetExperiment a ≡ 0 → (ns : Option (List ℕ)) → lineExperiment (withNumbers a ns) ≡ 0
+with-zero : (a : Answer Dataset) → datasetExperiment a ≡ 0 → (ns : Option (List ℤ)) → lineExperiment (withNumbers a ns) ≡ 0
 with-zero a e none = refl
 with-zero (Answer.refused n place) e (some ns) = refl
 with-zero (Answer.accepted d) e (some ns) = e

@@ -1,9 +1,11 @@
--- Document 01's six records print exactly its seven lines; and a log with two experiments, a malformed record and a short
--- last piece.
+-- Document 01's six records print exactly its seven lines; a log with two experiments, a malformed record and a short last
+-- piece; and a log with numbers below 0.
 use Prim.Native.Nat.{ℕ, _-_}
 use mathlib.Core.Path.{_≡_}
 use mathlib.Core.List.{List, [], _∷_, _++_}
+use lib.IntN.{pos, negℤ}
 use lib.ListN.{length, replicate}
+use Rattle.log.specs.Decimal.{signedDecimal}
 use Rattle.log.specs.Record.{experimentIn}
 use Rattle.log.specs.Line.{values, numbersOf}
 use Rattle.log.specs.Output.{output}
@@ -73,9 +75,52 @@ otherLines =
 abbrev pub OtherRecords : Type 0
 OtherRecords = output 128 otherRecords ≡ otherLines
 
--- port 7 in mode 1 and state 2, experiment 9, with two datasets: "0 7 1 2 9 5 258"
+-- a value of each kind, by a mode of the same number: the datasets of one message are each read with their own sign, and a
+-- float below 0 is its 32 bits
+abbrev signedRecords : List ℕ
+signedRecords =
+    recordOf 1 (0x0F ∷ 0x00 ∷ 0x04 ∷ 0x07 ∷ 0x01 ∷ 0x26 ∷ 0x00 ∷ 0x00 ∷ 0x00 ∷ 0x00 ∷ 0x10 ∷ 0x00 ∷ 0x00 ∷ 0x00 ∷ 0x10 ∷ [])
+    ++ recordOf 1 (0x0A ∷ 0x00 ∷ 0x44 ∷ 0x07 ∷ 0x00 ∷ 0x80 ∷ 0x03 ∷ 0x00 ∷ 0x04 ∷ 0x00 ∷ [])
+    ++ recordOf 1 (0x0A ∷ 0x00 ∷ 0x47 ∷ 0x07 ∷ 0x00 ∷ 0x01 ∷ 0x00 ∷ 0x00 ∷ 0x00 ∷ 0x01 ∷ [])
+    ++ recordOf 1 (0x07 ∷ 0x00 ∷ 0x45 ∷ 0x07 ∷ 0xFF ∷ 0x7F ∷ 0x80 ∷ [])
+    ++ recordOf 1 (0x0A ∷ 0x00 ∷ 0x44 ∷ 0x07 ∷ 0x01 ∷ 0x80 ∷ 0x02 ∷ 0x01 ∷ 0x04 ∷ 0x00 ∷ [])
+    ++ recordOf 1 (0x0A ∷ 0x00 ∷ 0x47 ∷ 0x07 ∷ 0x01 ∷ 0x01 ∷ 0x00 ∷ 0x00 ∷ 0x00 ∷ 0x01 ∷ [])
+    ++ recordOf 1 (0x08 ∷ 0x00 ∷ 0x45 ∷ 0x07 ∷ 0xFD ∷ 0xFF ∷ 0x03 ∷ 0x00 ∷ [])
+    ++ recordOf 1 (0x0A ∷ 0x00 ∷ 0x44 ∷ 0x07 ∷ 0x02 ∷ 0x80 ∷ 0x02 ∷ 0x02 ∷ 0x04 ∷ 0x00 ∷ [])
+    ++ recordOf 1 (0x0A ∷ 0x00 ∷ 0x47 ∷ 0x07 ∷ 0x02 ∷ 0x01 ∷ 0x00 ∷ 0x00 ∷ 0x00 ∷ 0x01 ∷ [])
+    ++ recordOf 1 (0x0C ∷ 0x00 ∷ 0x45 ∷ 0x07 ∷ 0x00 ∷ 0x00 ∷ 0x00 ∷ 0x80 ∷ 0xFD ∷ 0xFF ∷ 0xFF ∷ 0xFF ∷ [])
+    ++ recordOf 1 (0x0A ∷ 0x00 ∷ 0x44 ∷ 0x07 ∷ 0x03 ∷ 0x80 ∷ 0x01 ∷ 0x03 ∷ 0x04 ∷ 0x00 ∷ [])
+    ++ recordOf 1 (0x0A ∷ 0x00 ∷ 0x47 ∷ 0x07 ∷ 0x03 ∷ 0x01 ∷ 0x00 ∷ 0x00 ∷ 0x00 ∷ 0x01 ∷ [])
+    ++ recordOf 1 (0x08 ∷ 0x00 ∷ 0x45 ∷ 0x07 ∷ 0x00 ∷ 0x00 ∷ 0x80 ∷ 0xBF ∷ [])
+
+-- "4 0 7 0 0 0 -1 127 -128", "7 0 7 1 0 0 -3 3", "10 0 7 2 0 0 -2147483648 -3", "13 0 7 3 0 0 3212836864"
+abbrev signedLines : List ℕ
+signedLines =
+    49 ∷ 32 ∷ 48 ∷ 10
+    ∷ 50 ∷ 32 ∷ 48 ∷ 10
+    ∷ 51 ∷ 32 ∷ 48 ∷ 10
+    ∷ 52 ∷ 32 ∷ 48 ∷ 32 ∷ 55 ∷ 32 ∷ 48 ∷ 32 ∷ 48 ∷ 32 ∷ 48 ∷ 32 ∷ 45 ∷ 49 ∷ 32 ∷ 49 ∷ 50 ∷ 55 ∷ 32 ∷ 45 ∷ 49 ∷ 50 ∷ 56 ∷ 10
+    ∷ 53 ∷ 32 ∷ 48 ∷ 10
+    ∷ 54 ∷ 32 ∷ 48 ∷ 10
+    ∷ 55 ∷ 32 ∷ 48 ∷ 32 ∷ 55 ∷ 32 ∷ 49 ∷ 32 ∷ 48 ∷ 32 ∷ 48 ∷ 32 ∷ 45 ∷ 51 ∷ 32 ∷ 51 ∷ 10
+    ∷ 56 ∷ 32 ∷ 48 ∷ 10
+    ∷ 57 ∷ 32 ∷ 48 ∷ 10
+    ∷ 49 ∷ 48 ∷ 32 ∷ 48 ∷ 32 ∷ 55 ∷ 32 ∷ 50 ∷ 32 ∷ 48 ∷ 32 ∷ 48 ∷ 32 ∷ 45 ∷ 50 ∷ 49 ∷ 52 ∷ 55 ∷ 52 ∷ 56 ∷ 51 ∷ 54 ∷ 52 ∷ 56 ∷ 32 ∷ 45 ∷ 51 ∷ 10
+    ∷ 49 ∷ 49 ∷ 32 ∷ 48 ∷ 10
+    ∷ 49 ∷ 50 ∷ 32 ∷ 48 ∷ 10
+    ∷ 49 ∷ 51 ∷ 32 ∷ 48 ∷ 32 ∷ 55 ∷ 32 ∷ 51 ∷ 32 ∷ 48 ∷ 32 ∷ 48 ∷ 32 ∷ 51 ∷ 50 ∷ 49 ∷ 50 ∷ 56 ∷ 51 ∷ 54 ∷ 56 ∷ 54 ∷ 52 ∷ 10
+    ∷ 116 ∷ 111 ∷ 116 ∷ 97 ∷ 108 ∷ 32 ∷ 49 ∷ 51 ∷ 32 ∷ 114 ∷ 101 ∷ 102 ∷ 117 ∷ 115 ∷ 101 ∷ 100 ∷ 32 ∷ 48 ∷ 10 ∷ []
+
+abbrev pub SignedRecords : Type 0
+SignedRecords = output 128 signedRecords ≡ signedLines
+
+-- the longest number of 32 bits, "-2147483648"; 0 has no sign
+abbrev pub SignedText : Type 0
+SignedText = (signedDecimal (negℤ (pos 2147483648)) ≡ 45 ∷ 50 ∷ 49 ∷ 52 ∷ 55 ∷ 52 ∷ 56 ∷ 51 ∷ 54 ∷ 52 ∷ 56 ∷ []) × (signedDecimal (negℤ (pos 0)) ≡ 48 ∷ [])
+
+-- port 7 in mode 1 and state 2, experiment 9, with two datasets: "0 7 1 2 9 5 -258"
 abbrev pub ValuesLine : Type 0
-ValuesLine = numbersOf (values 7 1 2 9 (5 ∷ 258 ∷ [])) ≡ 0 ∷ 7 ∷ 1 ∷ 2 ∷ 9 ∷ 5 ∷ 258 ∷ []
+ValuesLine = numbersOf (values 7 1 2 9 (pos 5 ∷ negℤ (pos 258) ∷ [])) ≡ pos 0 ∷ pos 7 ∷ pos 1 ∷ pos 2 ∷ pos 9 ∷ pos 5 ∷ negℤ (pos 258) ∷ []
 
 -- "total 0 refused 0"
 abbrev pub EmptyInput : Type 0

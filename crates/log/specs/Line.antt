@@ -5,6 +5,7 @@ use mathlib.Core.List.{List, [], _∷_}
 use mathlib.Core.Option.{Option, none, some}
 use lib.Dec.{eqb}
 use lib.Ieee.{binary32, toBits}
+use lib.IntN.{ℤ, pos}
 use Rattle.protocol.specs.Form.{mostDatasets}
 use Rattle.rules.specs.declared.Effect.{Effect}
 use Rattle.rules.specs.declared.Effect.the-variants as Effect'
@@ -18,31 +19,31 @@ pub data Line : Type 0 where
   refused : ℕ → Line
   accepted : Line
   -- an accepted 45: port, mode, state, experiment number, datasets (floats as their 32 bits)
-  values : ℕ → ℕ → ℕ → ℕ → List ℕ → Line
+  values : ℕ → ℕ → ℕ → ℕ → List ℤ → Line
 
 -- ---- the datasets of a value, as they are handed out one after another
 
 -- a float as its 32 bits
-abbrev pub bitsOf : Number → ℕ
-bitsOf (whole n) = n
-bitsOf (float x) = toBits binary32 x
+abbrev pub printedNumber : Number → ℤ
+printedNumber (whole n) = n
+printedNumber (float x) = pos (toBits binary32 x)
 
-abbrev pub withNumber : ℕ → Option (List ℕ) → Option (List ℕ)
+abbrev pub withNumber : ℤ → Option (List ℤ) → Option (List ℤ)
 withNumber n none = none
 withNumber n (some ns) = some (n ∷ ns)
 
 -- 17 ends them; none where one is refused before
-abbrev pub followedBy : Answer Dataset → Option (List ℕ) → Option (List ℕ)
+abbrev pub followedBy : Answer Dataset → Option (List ℤ) → Option (List ℤ)
 followedBy (Answer.refused n place) rest = cond (eqb n 17) (some []) none
-followedBy (Answer.accepted d) rest = withNumber (bitsOf (d .value)) rest
+followedBy (Answer.accepted d) rest = withNumber (printedNumber (d .value)) rest
 
 -- at most so many, from a number on
-abbrev pub numbersFrom : ℕ → (ℕ → Answer Dataset) → ℕ → Option (List ℕ)
+abbrev pub numbersFrom : ℕ → (ℕ → Answer Dataset) → ℕ → Option (List ℤ)
 numbersFrom zero dataset n = some []
 numbersFrom (suc most) dataset n = followedBy (dataset n) (numbersFrom most dataset (suc n))
 
 -- 18: a dataset is an infinity or a NaN
-abbrev pub withNumbers : Answer Dataset → Option (List ℕ) → Line
+abbrev pub withNumbers : Answer Dataset → Option (List ℤ) → Line
 withNumbers a none = refused 18
 withNumbers (Answer.refused n place) (some ns) = refused n
 withNumbers (Answer.accepted d) (some ns) = values (d .port) (d .mode) (d .state) (d .experiment) ns
@@ -84,7 +85,7 @@ refusalOf (refused n) = n
 refusalOf accepted = 0
 refusalOf (values port mode state experiment ns) = 0
 
-abbrev pub numbersOf : Line → List ℕ
-numbersOf (refused n) = n ∷ []
-numbersOf accepted = 0 ∷ []
-numbersOf (values port mode state experiment ns) = 0 ∷ port ∷ mode ∷ state ∷ experiment ∷ ns
+abbrev pub numbersOf : Line → List ℤ
+numbersOf (refused n) = pos n ∷ []
+numbersOf accepted = pos 0 ∷ []
+numbersOf (values port mode state experiment ns) = pos 0 ∷ pos port ∷ pos mode ∷ pos state ∷ pos experiment ∷ ns

@@ -6,7 +6,7 @@ use mathlib.Core.Bool.{Bool, true, false}
 use mathlib.Core.List.{List, [], _∷_, _++_, map}
 use mathlib.Core.Option.{Option, none, some}
 use lib.Ieee.{fin}
-use lib.IntN.{pos}
+use lib.IntN.{pos, negℤ}
 use lib.ListN.{length}
 use Rattle.protocol.specs.Form.{upFrom}
 use Rattle.protocol.specs.declared.Way.the-variants.{Down, Up}
@@ -206,26 +206,26 @@ theLog =
     ∷ refuses motor five 14
     ∷ accepts motor (asked 2 1 1)
     ∷ accepts (motor ++ (asked 2 1 1 ∷ [])) (answered 2 1 1)
-    ∷ hands (motor ++ (asked 2 1 1 ∷ answered 2 1 1 ∷ [])) five 0 (stamped 0 2 2 0 (whole 5))
+    ∷ hands (motor ++ (asked 2 1 1 ∷ answered 2 1 1 ∷ [])) five 0 (stamped 0 2 2 0 (whole (pos 5)))
     ∷ []
 
 -- states 0, 1 (read by the mode that was answered, not by the one asked for) and 3: another delta, notify, mode
 abbrev states : List Example
 states =
-    hands (motor ++ (answered 2 1 1 ∷ [])) five 0 (stamped 0 2 0 0 (whole 5))
-    ∷ hands (motor ++ (format 3 1 0 ∷ answered 2 1 1 ∷ asked 3 1 1 ∷ [])) five 0 (stamped 0 2 1 0 (whole 5))
-    ∷ hands (motor ++ (asked 2 1 1 ∷ answered 2 9 1 ∷ [])) five 0 (stamped 0 2 3 0 (whole 5))
-    ∷ hands (motor ++ (asked 2 1 1 ∷ answered 2 1 0 ∷ [])) five 0 (stamped 0 2 3 0 (whole 5))
-    ∷ hands (motor ++ (asked 3 1 1 ∷ answered 2 1 1 ∷ [])) five 0 (stamped 0 2 3 0 (whole 5))
+    hands (motor ++ (answered 2 1 1 ∷ [])) five 0 (stamped 0 2 0 0 (whole (pos 5)))
+    ∷ hands (motor ++ (format 3 1 0 ∷ answered 2 1 1 ∷ asked 3 1 1 ∷ [])) five 0 (stamped 0 2 1 0 (whole (pos 5)))
+    ∷ hands (motor ++ (asked 2 1 1 ∷ answered 2 9 1 ∷ [])) five 0 (stamped 0 2 3 0 (whole (pos 5)))
+    ∷ hands (motor ++ (asked 2 1 1 ∷ answered 2 1 0 ∷ [])) five 0 (stamped 0 2 3 0 (whole (pos 5)))
+    ∷ hands (motor ++ (asked 3 1 1 ∷ answered 2 1 1 ∷ [])) five 0 (stamped 0 2 3 0 (whole (pos 5)))
     ∷ []
 
 -- experiment numbers
 abbrev experiments : List Example
 experiments =
     -- the 41's, not the 47's, in state 2 only; the port keeps its number in states 1 and 3
-    hands (motor ++ (during 7 (asked 2 1 1) ∷ during 8 (answered 2 1 1) ∷ [])) five 0 (stamped 0 2 2 7 (whole 5))
-    ∷ hands (motor ++ (answered 2 1 1 ∷ during 7 (asked 2 1 1) ∷ [])) five 0 (stamped 0 2 1 0 (whole 5))
-    ∷ hands (motor ++ (during 7 (asked 2 1 1) ∷ answered 2 9 1 ∷ [])) five 0 (stamped 0 2 3 0 (whole 5))
+    hands (motor ++ (during 7 (asked 2 1 1) ∷ during 8 (answered 2 1 1) ∷ [])) five 0 (stamped 0 2 2 7 (whole (pos 5)))
+    ∷ hands (motor ++ (answered 2 1 1 ∷ during 7 (asked 2 1 1) ∷ [])) five 0 (stamped 0 2 1 0 (whole (pos 5)))
+    ∷ hands (motor ++ (during 7 (asked 2 1 1) ∷ answered 2 9 1 ∷ [])) five 0 (stamped 0 2 3 0 (whole (pos 5)))
     ∷ numbers (motor ++ (answered 2 1 1 ∷ during 7 (asked 2 1 1) ∷ [])) 7
     ∷ numbers (motor ++ (during 7 (asked 2 1 1) ∷ answered 2 9 1 ∷ [])) 7
     -- the latest 41's; a refused one leaves no trace: another mode than there is, a port that is not present
@@ -277,12 +277,18 @@ readings =
     ∷ hands (attached 0 ∷ format 2 1 3 ∷ answered 2 1 1 ∷ []) (value (0x00 ∷ 0x00 ∷ 0x80 ∷ 0x7F ∷ [])) 0 (refused 18 0)
     ∷ []
 
--- two datasets of each kind, unsigned, and a float
+-- two datasets of each kind, the second below 0 and the first not, and the other way round; and a float
 abbrev datasets : List Example
 datasets =
-    second 0 (0x01 ∷ 0xFF ∷ []) (whole 255)
-    ∷ second 1 (0x01 ∷ 0x00 ∷ 0x02 ∷ 0x01 ∷ []) (whole 258)
-    ∷ second 2 (0x01 ∷ 0x00 ∷ 0x00 ∷ 0x00 ∷ 0x02 ∷ 0x00 ∷ 0x01 ∷ 0x00 ∷ []) (whole 65538)
+    second 0 (0x01 ∷ 0xFF ∷ []) (whole (negℤ (pos 1)))
+    ∷ second 0 (0xFF ∷ 0x7F ∷ []) (whole (pos 127))
+    ∷ second 0 (0x7F ∷ 0x80 ∷ []) (whole (negℤ (pos 128)))
+    ∷ second 1 (0x01 ∷ 0x00 ∷ 0xFD ∷ 0xFF ∷ []) (whole (negℤ (pos 3)))
+    ∷ second 1 (0xFF ∷ 0x7F ∷ 0x00 ∷ 0x80 ∷ []) (whole (negℤ (pos 32768)))
+    ∷ second 1 (0xFD ∷ 0xFF ∷ 0x02 ∷ 0x01 ∷ []) (whole (pos 258))
+    ∷ second 2 (0x01 ∷ 0x00 ∷ 0x00 ∷ 0x00 ∷ 0xFD ∷ 0xFF ∷ 0xFF ∷ 0xFF ∷ []) (whole (negℤ (pos 3)))
+    ∷ second 2 (0xFF ∷ 0xFF ∷ 0xFF ∷ 0x7F ∷ 0x00 ∷ 0x00 ∷ 0x00 ∷ 0x80 ∷ []) (whole (negℤ (pos 2147483648)))
+    ∷ second 2 (0xFD ∷ 0xFF ∷ 0xFF ∷ 0xFF ∷ 0x02 ∷ 0x00 ∷ 0x01 ∷ 0x00 ∷ []) (whole (pos 65538))
     ∷ second 3 (0x00 ∷ 0x00 ∷ 0x00 ∷ 0x00 ∷ 0x00 ∷ 0x00 ∷ 0x48 ∷ 0x43 ∷ []) (float (fin false 25 (pos 3)))
     ∷ []
 
