@@ -1,3 +1,4 @@
 pub mod Finite
 pub mod Numbers
 pub mod ValueAnswers
+pub mod Wholes

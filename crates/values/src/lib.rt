@@ -1,4 +1,5 @@
 // What is read of a value's bytes by its format, and the experiment number that it carries.
+pub mod bits;
 pub mod datasets;
 pub mod experiment;
 pub mod format;
