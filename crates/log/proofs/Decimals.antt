@@ -62,6 +62,10 @@ length-some n =
 pub length-twenty : (n : ℕ) → n < 2 ^ 64 → length (decimal n) ≤ 20
 length-twenty n h = length-under 19 n (omega arith)
 
+-- and the magnitude of an i64 at most nineteen
+pub length-nineteen : (n : ℕ) → n ≤ 2 ^ 63 → length (decimal n) ≤ 19
+length-nineteen n h = length-under 18 n (omega arith)
+
 -- ---- counting the digits: so many are counted, the last of those that are left among them
 
 pub record Counted (n k rest : ℕ) : Type 0 where

@@ -7,7 +7,7 @@ use Rattle.log.specs.Record.{recordSize}
 use Rattle.log.specs.Cutting.{Run, worked, printed}
 use Rattle.log.specs.Ending.{mostCount}
 
--- no line is longer: at most 22 numbers of 20 digits, each with a space or the line's end
+-- no line is longer: at most 22 numbers of 20 characters, a sign among them, each with a space or the line's end
 abbrev pub lineRoom : ℕ
 lineRoom = 462
 

@@ -2,6 +2,7 @@
 ghost use mathlib.Core.Path.{_≡_};
 ghost use mathlib.Core.List.{[], _∷_};
 ghost use Prim.Native.Nat.{_+_, _≤_};
+ghost use lib.IntN.{natAbs};
 ghost use lib.ListN.{length};
 ghost use Rattle.log.specs.Decimal as Decimal;
 ghost use Rattle.protocol.specs.Overwrite.{overwrite};
@@ -35,15 +36,38 @@ fn spell(out: &mut [u8], at: usize, k: usize, n: u64)
     out[at] = 48 + rest as u8;
 }
 
-// Puts a number's decimal digits at an index, where there is room for any number, and answers how many
-// there are.
-pub(crate) fn put_digits(out: &mut [u8], at: usize, n: u64) -> usize
-    requires { ⌜ at + 20 ≤ length (now out) ⌝ }
-    ensures { λ r. ⌜ (r ≡ length (Decimal.decimal n)) × (r ≤ 20) × (now (out .exit) ≡ overwrite (now (out .entry)) at (Decimal.decimal n)) ⌝ }
+// Puts a number's decimal digits at an index, where there is room for them, and answers how many there are.
+fn put_digits(out: &mut [u8], at: usize, n: u64) -> usize
+    requires { ⌜ at + length (Decimal.decimal n) ≤ length (now out) ⌝ }
+    ensures { λ r. ⌜ (r ≡ length (Decimal.decimal n)) × (now (out .exit) ≡ overwrite (now (out .entry)) at (Decimal.decimal n)) ⌝ }
 {
     let k = places(n);
     spell(out, at, k, n);
     k
+}
+
+// A number without its sign.
+fn magnitude(n: i64) -> u64
+    ensures { λ r. ⌜ (r ≡ natAbs n) × (r ≤ 9223372036854775808) ⌝ }
+{
+    if 0 <= n {
+        n as u64
+    } else {
+        ((-1 - n) as u64) + 1
+    }
+}
+
+// Puts a signed number's text at an index, where there is room for any number's, and answers how long it is.
+pub(crate) fn put_signed(out: &mut [u8], at: usize, n: i64) -> usize
+    requires { ⌜ at + 20 ≤ length (now out) ⌝ }
+    ensures { λ r. ⌜ (r ≡ length (Decimal.signedDecimal n)) × (r ≤ 20) × (now (out .exit) ≡ overwrite (now (out .entry)) at (Decimal.signedDecimal n)) ⌝ }
+{
+    let size = magnitude(n);
+    if 0 <= n {
+        return put_digits(out, at, size);
+    }
+    out[at] = 45;
+    1 + put_digits(out, at + 1, size)
 }
 
 // Puts a number's decimal digits at an index, where they fit, and answers how many there are.
