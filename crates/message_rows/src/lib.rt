@@ -10,7 +10,7 @@ ghost use Rattle.message_rows.specs.Row.{acceptedRow, numberOf, row};
 pub const ROW_SIZE: usize = 20;
 
 // A signed number in two's complement of 64 bits.
-fn signed(v: i32) -> u64
+pub fn signed(v: i32) -> u64
     ensures { λ r. ⌜ r ≡ numberOf (Field.integer v) ⌝ }
 {
     if 0 <= v {
