@@ -53,6 +53,7 @@ int main(void)
     castanetash_dataset(table, CASTANETASH_TABLE, value, sizeof value, CASTANETASH_UP, 0, cells,
                         CASTANETASH_PORT_CELLS);
     number = (int64_t)cells[CASTANETASH_DATASET_CELL_VALUE];
-    printf("dataset 0: %d, experiment %u\n", (int)number, (unsigned)cells[CASTANETASH_DATASET_CELL_EXPERIMENT]);
+    printf("dataset 0: %lld, experiment %u\n", (long long)number,
+           (unsigned)cells[CASTANETASH_DATASET_CELL_EXPERIMENT]);
     return 0;
 }
