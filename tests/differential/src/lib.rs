@@ -1,9 +1,10 @@
 //! What the tests share: the product's C interface, the comparison with the second program in reading, in writing and
-//! in port tables, the product's log reader, and random messages.
+//! in port tables, the product's log reader, whole numbers with their sign, and random messages.
 
 mod cells;
 mod product;
 mod program;
+pub mod signed;
 mod table;
 mod tally;
 mod writing;
