@@ -232,7 +232,12 @@ fn slow_pipes() {
     every_log(51, 60, &mut log).expect("writing to memory");
     log.truncate(log.len() - 5);
     agrees(&printed_in_pieces(&log, &[1]), &log, "one byte at a time");
+    log.clear();
     bench_log(52, 3000, &mut log).expect("writing to memory");
+    let mut lines = Lines::default();
+    lines.add(&wanted(&log));
+    lines.print("slow pipes");
+    assert!(lines.values > 1000 && lines.negative > 500);
     for sizes in [&[135, 1][..], &[137], &[4096, 3, 65536], &[65535], &[65537], &[100_000]] {
         agrees(&printed_in_pieces(&log, sizes), &log, &format!("pieces of {sizes:?}"));
     }
