@@ -13,7 +13,7 @@ struct message {
 static const struct message messages[] = {
     /* port 0 is attached */
     {CASTANETASH_UP, {0x0F, 0x00, 0x04, 0x00, 0x01, 0x26, 0x00, 0x00, 0x00, 0x00, 0x10, 0x00, 0x00, 0x00, 0x10}},
-    /* values in mode 2 have one dataset of 32 bits */
+    /* values in mode 2 have one dataset of 32 bits, a position in degrees */
     {CASTANETASH_UP, {0x0A, 0x00, 0x44, 0x00, 0x02, 0x80, 0x01, 0x02, 0x04, 0x00}},
     /* mode 2 is asked for, and the hub answers */
     {CASTANETASH_DOWN, {0x0A, 0x00, 0x41, 0x00, 0x02, 0x01, 0x00, 0x00, 0x00, 0x01}},
@@ -22,13 +22,15 @@ static const struct message messages[] = {
 /* The number of the running experiment. */
 static const uint16_t experiment = 7;
 
-static const uint8_t value[] = {0x08, 0x00, 0x45, 0x00, 0x05, 0x00, 0x00, 0x00};
+/* The motor is turned back by three degrees. */
+static const uint8_t value[] = {0x08, 0x00, 0x45, 0x00, 0xFD, 0xFF, 0xFF, 0xFF};
 
 int main(void)
 {
     uint32_t table[CASTANETASH_TABLE];
     uint64_t cells[CASTANETASH_PORT_CELLS];
     uint64_t answer;
+    int64_t number;
     size_t i;
 
     castanetash_empty(table, CASTANETASH_TABLE);
@@ -50,7 +52,8 @@ int main(void)
            (unsigned)cells[CASTANETASH_FORMAT_CELL_KIND]);
     castanetash_dataset(table, CASTANETASH_TABLE, value, sizeof value, CASTANETASH_UP, 0, cells,
                         CASTANETASH_PORT_CELLS);
-    printf("dataset 0: %u, experiment %u\n", (unsigned)cells[CASTANETASH_DATASET_CELL_VALUE],
+    number = (int64_t)cells[CASTANETASH_DATASET_CELL_VALUE];
+    printf("dataset 0: %lld, experiment %u\n", (long long)number,
            (unsigned)cells[CASTANETASH_DATASET_CELL_EXPERIMENT]);
     return 0;
 }

@@ -76,7 +76,8 @@ impl Table {
         }
     }
 
-    /// Refusal number, place, kind of value, value, port, mode, state, experiment number.
+    /// Refusal number, place, kind of value, value, port, mode, state, experiment number. A whole number is in two's
+    /// complement of 64 bits.
     fn dataset(&self, way: u8, message: &[u8], number: usize) -> [u64; 8] {
         let Table(table) = self;
         let mut cells = [0; 8];
@@ -120,7 +121,7 @@ fn follow() -> Result<(), (u64, u64)> {
     let mut table = Table::empty();
     // Port 0 is attached.
     table.offer(UP, b"\x0F\x00\x04\x00\x01\x26\x00\x00\x00\x00\x10\x00\x00\x00\x10")?;
-    // Values in mode 2 have one dataset of 32 bits.
+    // Values in mode 2 have one dataset of 32 bits, a position in degrees.
     table.offer(UP, b"\x0A\x00\x44\x00\x02\x80\x01\x02\x04\x00")?;
     // Mode 2 is asked for, and the hub answers.
     table.offer(DOWN, b"\x0A\x00\x41\x00\x02\x01\x00\x00\x00\x01")?;
@@ -130,8 +131,9 @@ fn follow() -> Result<(), (u64, u64)> {
     println!("port 0: device {}, state {}", port[2], port[5]);
     let format = table.format(0, 2);
     println!("mode 2: datasets {}, kind {}", format[2], format[3]);
-    let dataset = table.dataset(UP, b"\x08\x00\x45\x00\x05\x00\x00\x00", 0);
-    println!("dataset 0: {}, experiment {}", dataset[3], dataset[7]);
+    // The motor is turned back by three degrees.
+    let dataset = table.dataset(UP, b"\x08\x00\x45\x00\xFD\xFF\xFF\xFF", 0);
+    println!("dataset 0: {}, experiment {}", dataset[3] as i64, dataset[7]);
     Ok(())
 }
 

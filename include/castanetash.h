@@ -142,14 +142,17 @@ enum castanetash_state {
 /* Hands out one dataset of a 45, numbered from 0. The message is judged as an offered one, and changes nothing; an
  * accepted message that is no 45 has no datasets. A value that was measured as asked carries the number of the
  * experiment that asked for it, and no other value carries one. Fills the first 8 cells and returns 8; where there are
- * fewer, it changes none and returns 0. */
+ * fewer, it changes none and returns 0.
+ *
+ * Whole numbers of 8, 16 and 32 bits are signed. The value cell has them in two's complement of 64 bits, so
+ * (int64_t)cells[CASTANETASH_DATASET_CELL_VALUE] is the number. */
 #define CASTANETASH_DATASET_CELLS 8
 
 enum castanetash_dataset_cell {
     CASTANETASH_DATASET_CELL_REFUSAL = 0, /* refusal number, 0 if handed out; unless 0, the cells from 2 on are 0 */
     CASTANETASH_DATASET_CELL_PLACE = 1,   /* place of the refusal in the message */
     CASTANETASH_DATASET_CELL_KIND = 2,    /* 0 whole number, 1 float */
-    CASTANETASH_DATASET_CELL_VALUE = 3,   /* the number, a float as its 32 bits */
+    CASTANETASH_DATASET_CELL_VALUE = 3,   /* a whole number in two's complement of 64 bits, a float as its 32 bits */
     CASTANETASH_DATASET_CELL_PORT = 4,
     CASTANETASH_DATASET_CELL_MODE = 5,
     CASTANETASH_DATASET_CELL_STATE = 6,
@@ -198,7 +201,7 @@ enum castanetash_format_cell {
     CASTANETASH_FORMAT_CELL_REFUSAL = 0, /* 9 or 0 */
     CASTANETASH_FORMAT_CELL_KNOWN = 1,   /* 1 if the format is known */
     CASTANETASH_FORMAT_CELL_DATASETS = 2,
-    CASTANETASH_FORMAT_CELL_KIND = 3, /* 0, 1, 2: whole numbers of 8, 16, 32 bits; 3: floats */
+    CASTANETASH_FORMAT_CELL_KIND = 3, /* 0, 1, 2: signed whole numbers of 8, 16, 32 bits; 3: floats */
     CASTANETASH_FORMAT_CELL_FIGURES = 4,
     CASTANETASH_FORMAT_CELL_DECIMALS = 5
 };

@@ -1,9 +1,10 @@
 //! What the tests share: the product's C interface, the comparison with the second program in reading, in writing and
-//! in port tables, the product's log reader, and random messages.
+//! in port tables, the product's log reader, whole numbers with their sign, and random messages.
 
 mod cells;
 mod product;
 mod program;
+pub mod signed;
 mod table;
 mod tally;
 mod writing;
@@ -11,7 +12,7 @@ mod writing;
 pub use cells::{cells, Cells, CELLS};
 pub use product::{castanetash_dataset, castanetash_empty, castanetash_format, castanetash_offer, castanetash_port};
 pub use product::{castanetash_read, castanetash_write, read, way_byte, write};
-pub use program::{logread, logread_by_shell, logread_path, root, run, wanted};
+pub use program::{logread, logread_by_shell, logread_path, printed, printed_in_pieces, root, run, wanted};
 pub use table::{
     dataset_cells, format_cells, offer_answer, port_cells, LentTable, TableTally, Trio, DATASET_CELLS, FORMAT_CELLS,
     NOT_SOUND, PORT_CELLS,

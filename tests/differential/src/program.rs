@@ -1,6 +1,6 @@
 //! The product's log reader as a program.
 
-use std::io::Read;
+use std::io::{pipe, Read, Write};
 use std::path::{Path, PathBuf};
 use std::process::{Command, Output, Stdio};
 use std::thread::{self, JoinHandle};
@@ -69,6 +69,33 @@ pub fn run(mut command: Command) -> Output {
     assert!(status.code().is_some(), "a signal ended the program: {status}");
     let [stdout, stderr] = [stdout, stderr].map(|it| it.map_or_else(Vec::new, |it| it.join().expect("a reader ends")));
     Output { status, stdout, stderr }
+}
+
+/// What the product's log reader prints and tells of a log.
+pub fn printed(log: &[u8]) -> Output {
+    printed_in_pieces(log, &[log.len().max(1)])
+}
+
+/// The same of a log that comes in pieces of these sizes, over and over.
+pub fn printed_in_pieces(log: &[u8], sizes: &[usize]) -> Output {
+    let (reader, mut writer) = pipe().expect("a pipe");
+    let (log, sizes) = (log.to_vec(), sizes.to_vec());
+    let writing = thread::spawn(move || {
+        let mut rest = &log[..];
+        for size in sizes.iter().cycle() {
+            if rest.is_empty() {
+                break;
+            }
+            let (piece, later) = rest.split_at(rest.len().min(*size));
+            writer.write_all(piece).expect("the log reader takes all of its input");
+            rest = later;
+        }
+    });
+    let mut program = logread();
+    program.stdin(reader);
+    let output = run(program);
+    writing.join().expect("the writing ends");
+    output
 }
 
 fn read_all(mut pipe: impl Read + Send + 'static) -> JoinHandle<Vec<u8>> {

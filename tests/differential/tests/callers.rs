@@ -17,7 +17,7 @@ const EXAMPLES: [(&str, &str); 2] = [
     ),
     (
         "port_table",
-        "port 0: device 38, state 2\nmode 2: datasets 1, kind 2\ndataset 0: 5, experiment 7\n",
+        "port 0: device 38, state 2\nmode 2: datasets 1, kind 2\ndataset 0: -3, experiment 7\n",
     ),
 ];
 

@@ -1,40 +1,20 @@
 //! The product's log reader prints what the second program's prints, byte for byte. The seeds are fixed, so every run
 //! reads the same logs.
 
-use std::io::{pipe, Write};
 use std::process::Output;
-use std::thread;
 
-use differential::{logread, run, wanted, Random};
+use differential::{printed, printed_in_pieces, wanted, Random};
 use yardstick::examples::{bytes, LOGS};
 use yardstick::make_log::{bench_log, every_log, hour_log};
 use yardstick::traffic::experiment;
 use yardstick::{log_record, Way, LOG_RECORD};
 
-/// What the product prints of a log that comes in pieces of these sizes, over and over.
-fn printed_in_pieces(log: &[u8], sizes: &[usize]) -> Output {
-    let (reader, mut writer) = pipe().expect("a pipe");
-    let (log, sizes) = (log.to_vec(), sizes.to_vec());
-    let writing = thread::spawn(move || {
-        let mut rest = &log[..];
-        for size in sizes.iter().cycle() {
-            if rest.is_empty() {
-                break;
-            }
-            let (piece, later) = rest.split_at(rest.len().min(*size));
-            writer.write_all(piece).expect("the log reader takes all of its input");
-            rest = later;
-        }
-    });
-    let mut program = logread();
-    program.stdin(reader);
-    let output = run(program);
-    writing.join().expect("the writing ends");
-    output
-}
-
-fn printed(log: &[u8]) -> Output {
-    printed_in_pieces(log, &[log.len().max(1)])
+/// Lines as numbers, without the totals.
+fn numbers(text: &[u8]) -> Vec<Vec<i64>> {
+    let text = std::str::from_utf8(text).expect("lines are text");
+    let numbers = |line: &str| line.split(' ').map(|it| it.parse().expect("a number")).collect();
+    let is_line = |line: &&str| !line.starts_with("total");
+    text.lines().filter(is_line).map(numbers).collect()
 }
 
 /// Counts lines by their refusal, and values.
@@ -45,26 +25,27 @@ struct Lines {
     /// Values by their state, and those with an experiment number other than 0.
     by_state: [u64; 4],
     with_number: u64,
+    /// Values with a negative dataset.
+    negative: u64,
 }
 
 impl Lines {
     fn add(&mut self, text: &[u8]) {
-        let text = std::str::from_utf8(text).expect("lines are text");
-        for line in text.lines().filter(|line| !line.starts_with("total")) {
-            let numbers: Vec<usize> = line.split(' ').map(|n| n.parse().expect("a number")).collect();
-            self.by_refusal[numbers[1]] += 1;
-            if numbers.len() > 2 {
+        for line in numbers(text) {
+            self.by_refusal[line[1] as usize] += 1;
+            if let [_, _, _, _, state, experiment, datasets @ ..] = &line[..] {
                 self.values += 1;
-                self.by_state[numbers[4]] += 1;
-                self.with_number += u64::from(numbers[5] != 0);
+                self.by_state[*state as usize] += 1;
+                self.with_number += u64::from(*experiment != 0);
+                self.negative += u64::from(datasets.iter().any(|&number| number < 0));
             }
         }
     }
 
     fn print(&self, name: &str) {
         println!(
-            "{name}: lines by refusal {:?}, with values {}, by state {:?}, with a number {}",
-            self.by_refusal, self.values, self.by_state, self.with_number
+            "{name}: lines by refusal {:?}, with values {}, by state {:?}, with a number {}, negative {}",
+            self.by_refusal, self.values, self.by_state, self.with_number, self.negative
         );
     }
 }
@@ -108,6 +89,7 @@ fn hour() {
     compare(&log, &mut lines, "hour");
     lines.print("hour");
     assert!(lines.with_number > 50);
+    assert_eq!(lines.negative, 2);
 }
 
 #[test]
@@ -129,6 +111,7 @@ fn made_logs() {
     assert!(lines.values > 1000);
     assert!(lines.by_state[1] > 100 && lines.by_state[3] > 100);
     assert!(lines.with_number > 1000);
+    assert!(lines.negative > 1000);
 }
 
 #[test]
@@ -191,14 +174,6 @@ fn random_bytes_before_the_message() {
     assert!(lines.with_number > 1000);
 }
 
-/// What the product prints, as numbers, without the totals.
-fn numbers(log: &[u8]) -> Vec<Vec<u64>> {
-    let text = String::from_utf8(printed(log).stdout).expect("lines are text");
-    let numbers = |line: &str| line.split(' ').map(|it| it.parse().expect("a number")).collect();
-    let is_line = |line: &&str| !line.starts_with("total");
-    text.lines().filter(is_line).map(numbers).collect()
-}
-
 /// Where every number of a log is 0, every value's is. With other numbers the lines are the same but for the numbers of
 /// values in state 2.
 #[test]
@@ -220,7 +195,7 @@ fn numbers_change_values_in_state_2_alone() {
             record[6..8].copy_from_slice(&experiment(&mut random).to_le_bytes());
             without[6..8].fill(0);
         }
-        let [lines, without] = [numbers(&log), numbers(&without)];
+        let [lines, without] = [log, without].map(|log| numbers(&printed(&log).stdout));
         assert_eq!(lines.len(), without.len());
         for (mut line, without) in lines.into_iter().zip(without) {
             if line.len() > 2 && line[4] == 2 {
@@ -257,7 +232,12 @@ fn slow_pipes() {
     every_log(51, 60, &mut log).expect("writing to memory");
     log.truncate(log.len() - 5);
     agrees(&printed_in_pieces(&log, &[1]), &log, "one byte at a time");
+    log.clear();
     bench_log(52, 3000, &mut log).expect("writing to memory");
+    let mut lines = Lines::default();
+    lines.add(&wanted(&log));
+    lines.print("slow pipes");
+    assert!(lines.values > 1000 && lines.negative > 500);
     for sizes in [&[135, 1][..], &[137], &[4096, 3, 65536], &[65535], &[65537], &[100_000]] {
         agrees(&printed_in_pieces(&log, sizes), &log, &format!("pieces of {sizes:?}"));
     }

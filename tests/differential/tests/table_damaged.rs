@@ -42,7 +42,7 @@ fn compare(tally: &mut TableTally, cells: &[u32], calls: &Calls) {
         );
         tally.count_handed_out(answer);
         if let (Ok(table), Ok(dataset)) = (expected, answer) {
-            tally.count_experiment(table, &dataset);
+            tally.count_dataset(table, &dataset);
         }
         let mut offered = product.clone();
         let answer = expected.and_then(|table| {

@@ -1,14 +1,14 @@
 //! All programs give every answer about tables that is written out by hand.
 
 use differential::{dataset_cells, format_cells, offer_answer, port_cells, LentTable, TableTally, Trio, PORT_CELLS};
-use yardstick::examples::{bytes, TableStep, EXPERIMENTS, TABLES};
+use yardstick::examples::{bytes, TableStep, EXPERIMENTS, TABLES, WHOLE_NUMBERS};
 use yardstick::traffic::compose;
 use yardstick::{Form, Refusal, Way, RECORD_CELLS};
 
 #[test]
 fn table_examples() {
     let mut tally = TableTally::default();
-    for example in TABLES.iter().chain(EXPERIMENTS) {
+    for example in TABLES.iter().chain(EXPERIMENTS).chain(WHOLE_NUMBERS) {
         let mut product = LentTable::empty();
         let mut trio = Trio::default();
         for step in example.steps {

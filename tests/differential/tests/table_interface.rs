@@ -39,6 +39,7 @@ fn only_the_first_cells_change() {
         "04 01 12",
         "05 00 45 0A 00",
         "05 00 45 02 07",
+        "05 00 45 02 FD",
         "05 00 45 FF 01",
     ];
     let mut calls = 0;

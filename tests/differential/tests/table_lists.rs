@@ -41,6 +41,7 @@ fn short_lists() {
     tally.expect_offered([0], 1000);
     tally.expect_offered(10..=16, 30);
     tally.expect_handed_out(10..=18, 30);
+    tally.expect_signs(100);
     tally.expect_ports(500);
     tally.expect_experiments(20);
 }
@@ -73,6 +74,7 @@ fn long_lists() {
     tally.expect_handed_out([0], 20_000);
     tally.expect_handed_out(2..=7, 50);
     tally.expect_handed_out(10..=18, 1000);
+    tally.expect_signs(5000);
     tally.expect_ports(5000);
     tally.expect_experiments(500);
 }

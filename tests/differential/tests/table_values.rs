@@ -114,6 +114,7 @@ fn every_byte() {
     }
     println!("every byte: {tally}");
     tally.expect_handed_out([0], 3 * 256 * (3 + 6 + 12));
+    tally.expect_signs(4000);
 }
 
 /// Every experiment number, carried by a value in state 2 and by none in states 1 and 3.

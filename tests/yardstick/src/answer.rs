@@ -17,7 +17,7 @@ pub struct Setup {
 pub struct Format {
     /// How many datasets a value has, 1 to 16.
     pub datasets: u8,
-    /// Their kind: 8, 16 or 32 bits, or float.
+    /// Their kind: signed numbers of 8, 16 or 32 bits, or floats.
     pub kind: u8,
     /// Total figures.
     pub figures: u8,
@@ -85,8 +85,8 @@ pub struct Port {
 /// What a dataset says.
 #[derive(Clone, Copy, Debug, PartialEq, Eq)]
 pub enum Value {
-    /// A whole number.
-    Whole(u32),
+    /// A whole number, with its sign.
+    Whole(i32),
     /// A float, as its 32 bits.
     Float(u32),
 }

@@ -3,7 +3,7 @@
 use std::collections::BTreeSet;
 
 use yardstick::traffic::{Scene, Traffic};
-use yardstick::{ExperimentTally, MessageList, Offered, Refusal, Table, Way};
+use yardstick::{ExperimentTally, MessageList, Offered, Refusal, Table, Value, Way};
 
 /// A list followed by both, with counts of the answers.
 #[derive(Default)]
@@ -12,6 +12,8 @@ struct Both {
     list: MessageList,
     /// How often each number came, 0 for acceptance.
     numbers: [u64; 20],
+    /// How many datasets were negative.
+    negative: u64,
     experiments: ExperimentTally,
     /// The ports of this list that went with an experiment number.
     gone: BTreeSet<u8>,
@@ -35,6 +37,7 @@ impl Both {
         assert_eq!(by_list, answer, "dataset {number} of {message:02X?} {way:?}");
         self.count(answer);
         if let Ok(dataset) = answer {
+            self.negative += u64::from(matches!(dataset.value, Value::Whole(..0)));
             self.experiments.count_handed_out(&self.table, &dataset);
         }
     }
@@ -69,7 +72,10 @@ impl Both {
     }
 
     fn expect_often(&self, name: &str, least: u64) {
-        println!("{name}: {:?}\nexperiments: {}", self.numbers, self.experiments);
+        println!(
+            "{name}: {:?}, {} negative datasets\nexperiments: {}",
+            self.numbers, self.negative, self.experiments
+        );
         for number in 10..=18 {
             let seen = self.numbers[number];
             assert!(seen >= least, "{number} came {seen} times, not {least}");
@@ -78,6 +84,7 @@ impl Both {
             self.numbers[1..=7].iter().all(|&seen| seen >= 50),
             "a refusal of reading is rare"
         );
+        assert!(self.negative >= least, "{} negative datasets", self.negative);
     }
 }
 

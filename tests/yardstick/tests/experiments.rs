@@ -87,7 +87,7 @@ fn only_an_accepted_asking_leaves_its_number_in_a_list() {
 }
 
 /// What the log reader prints, as numbers, without the totals.
-fn lines(log: &[u8]) -> Vec<Vec<u64>> {
+fn lines(log: &[u8]) -> Vec<Vec<i64>> {
     let mut output = Vec::new();
     read_log(log, &mut output).expect("reading from memory");
     let text = String::from_utf8(output).expect("lines are text");

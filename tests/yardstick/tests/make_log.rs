@@ -40,12 +40,12 @@ fn printed(log: &[u8]) -> String {
 }
 
 /// The lines that the log reader prints, as numbers, without the totals.
-fn lines(log: &[u8]) -> Vec<Vec<u64>> {
+fn lines(log: &[u8]) -> Vec<Vec<i64>> {
     let text = printed(log);
     let mut lines: Vec<&str> = text.lines().collect();
     let totals = lines.pop().expect("totals");
     let numbers = |line: &&str| line.split(' ').map(|it| it.parse().expect("a number")).collect();
-    let lines: Vec<Vec<u64>> = lines.iter().map(numbers).collect();
+    let lines: Vec<Vec<i64>> = lines.iter().map(numbers).collect();
     let refused = lines.iter().filter(|line| line[1] != 0).count();
     assert_eq!(totals, format!("total {} refused {refused}", lines.len()));
     lines
@@ -76,19 +76,26 @@ fn half_of_a_bench_log_is_accepted_values() {
 fn a_bench_log_is_mixed() {
     let lines = lines(&bench(6, 200_000));
     let values = lines.iter().filter(|line| line.len() > 2);
-    let ports: BTreeSet<u64> = values.clone().map(|line| line[2]).collect();
-    let modes: BTreeSet<[u64; 2]> = values.clone().map(|line| [line[2], line[3]]).collect();
-    let states: BTreeSet<u64> = values.clone().map(|line| line[4]).collect();
-    let experiments: BTreeSet<u64> = values.clone().map(|line| line[5]).collect();
-    let sizes: BTreeSet<usize> = values.map(|line| line.len() - 6).collect();
-    let refusals: BTreeSet<u64> = lines.iter().map(|line| line[1]).filter(|&it| it != 0).collect();
+    let ports: BTreeSet<i64> = values.clone().map(|line| line[2]).collect();
+    let modes: BTreeSet<[i64; 2]> = values.clone().map(|line| [line[2], line[3]]).collect();
+    let states: BTreeSet<i64> = values.clone().map(|line| line[4]).collect();
+    let experiments: BTreeSet<i64> = values.clone().map(|line| line[5]).collect();
+    let sizes: BTreeSet<usize> = values.clone().map(|line| line.len() - 6).collect();
+    let negative: BTreeSet<[i64; 2]> = values
+        .filter(|line| line[6..].iter().any(|&number| number < 0))
+        .map(|line| [line[2], line[3]])
+        .collect();
+    let refusals: BTreeSet<i64> = lines.iter().map(|line| line[1]).filter(|&it| it != 0).collect();
     println!("ports {ports:?}, modes {modes:?}, states {states:?}, datasets {sizes:?}, refusals {refusals:?}");
+    println!("negative in modes {negative:?}");
     println!("{} experiments", experiments.len());
     assert!(ports.len() >= 8);
     assert!(modes.len() >= 18);
     assert!(states.is_superset(&[1, 2, 3].into()));
     assert!(experiments.len() >= 50);
     assert!(sizes.is_superset(&[1, 2, 3, 4, 6].into()));
+    // 32, 8 and 16 bits; both positions of a pair.
+    assert!(negative.is_superset(&[[0, 2], [0, 1], [0, 3], [16, 2]].into()));
     assert!(refusals.is_superset(&[10, 14, 16].into()));
     let refused = lines.iter().filter(|line| line[1] != 0).count();
     assert!(refused * 100 < lines.len(), "{refused} refused");
@@ -111,19 +118,19 @@ fn forms(log: &[u8]) -> BTreeSet<u8> {
 
 #[test]
 fn every_form_and_refusal() {
-    let all: BTreeSet<u64> = [0, 1, 2, 3, 4, 5, 6, 7, 10, 11, 12, 13, 14, 15, 16, 18, 19].into();
+    let all: BTreeSet<i64> = [0, 1, 2, 3, 4, 5, 6, 7, 10, 11, 12, 13, 14, 15, 16, 18, 19].into();
     for (seed, records) in [(1, 100), (2, 5000)] {
         let log = every(seed, records);
         let lines = lines(&log);
         assert_eq!(lines.len() as u64, records);
-        let refusals: BTreeSet<u64> = lines.iter().map(|line| line[1]).collect();
+        let refusals: BTreeSet<i64> = lines.iter().map(|line| line[1]).collect();
         assert_eq!(refusals, all, "{records} records");
         assert_eq!(forms(&log).len(), Form::COUNT, "{records} records");
     }
     // The random part has them all on its own.
     let log = every(3, 30_000);
     let random_part = &lines(&log)[100..];
-    let refusals: BTreeSet<u64> = random_part.iter().map(|line| line[1]).collect();
+    let refusals: BTreeSet<i64> = random_part.iter().map(|line| line[1]).collect();
     assert_eq!(refusals, all);
 }
 
@@ -148,17 +155,23 @@ fn the_hour_is_an_hour() {
     assert!((150..=240).contains(&times.len()), "{} records", times.len());
 }
 
-/// It shows every state, numbers of every width but one byte, one to three datasets, and the refusals of its story.
+/// It shows every state, numbers of every width but one byte, positions under 0, one to three datasets, and the refusals
+/// of its story.
 #[test]
 fn what_the_hour_shows() {
     let log = hour();
     let lines = lines(&log);
     let values = lines.iter().filter(|line| line.len() > 2);
-    let states: BTreeSet<u64> = values.clone().map(|line| line[4]).collect();
+    let states: BTreeSet<i64> = values.clone().map(|line| line[4]).collect();
     assert_eq!(states, [0, 1, 2, 3].into());
-    let sizes: BTreeSet<usize> = values.map(|line| line.len() - 6).collect();
+    let sizes: BTreeSet<usize> = values.clone().map(|line| line.len() - 6).collect();
     assert_eq!(sizes, [1, 2, 3].into());
-    let refusals: Vec<u64> = lines.iter().map(|line| line[1]).filter(|&it| it != 0).collect();
+    let negative: Vec<&[i64]> = values
+        .map(|line| &line[2..])
+        .filter(|it| it[4..].iter().any(|&number| number < 0))
+        .collect();
+    assert_eq!(negative, [[0, 2, 2, 302, -8], [0, 2, 2, 302, -3]]);
+    let refusals: Vec<i64> = lines.iter().map(|line| line[1]).filter(|&it| it != 0).collect();
     assert_eq!(refusals, [14, 14, 15, 5, 5, 18, 16, 19, 5, 10, 12, 14, 15, 10]);
 }
 
@@ -185,19 +198,19 @@ fn experiments_of_the_hour() {
 /// times; before and after they are in state 2 and have that of the experiment.
 #[test]
 fn late_answers_of_the_hour() {
-    let motor_a: Vec<[u64; 4]> = lines(&hour())
+    let motor_a: Vec<[i64; 4]> = lines(&hour())
         .iter()
         .filter(|line| line.len() > 2 && line[2] == 0)
         .map(|line| [line[3], line[4], line[5], line[6]])
         .collect();
-    let mut stages: Vec<([u64; 3], Vec<u64>)> = Vec::new();
+    let mut stages: Vec<([i64; 3], Vec<i64>)> = Vec::new();
     for [mode, state, experiment, number] in motor_a {
         match stages.last_mut() {
             Some((stage, numbers)) if *stage == [mode, state, experiment] => numbers.push(number),
             _ => stages.push(([mode, state, experiment], vec![number])),
         }
     }
-    let order: Vec<[u64; 3]> = stages.iter().map(|&(stage, _)| stage).collect();
+    let order: Vec<[i64; 3]> = stages.iter().map(|&(stage, _)| stage).collect();
     assert_eq!(order, [[1, 2, 301], [1, 1, 0], [2, 2, 302], [2, 1, 0], [1, 2, 303]]);
     assert_eq!(stages[1].1, [598, 451, 287, 140, 36]);
     assert_eq!(stages[3].1, [454, 461, 489, 530]);

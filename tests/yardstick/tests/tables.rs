@@ -1,12 +1,12 @@
 //! The table and the reader without a table give every answer that is written out by hand.
 
-use yardstick::examples::{bytes, TableStep, EXPERIMENTS, TABLES};
+use yardstick::examples::{bytes, TableStep, EXPERIMENTS, TABLES, WHOLE_NUMBERS};
 use yardstick::traffic::compose;
 use yardstick::{Form, MessageList, Refusal, Table, Way};
 
 #[test]
 fn table_examples() {
-    for example in TABLES.iter().chain(EXPERIMENTS) {
+    for example in TABLES.iter().chain(EXPERIMENTS).chain(WHOLE_NUMBERS) {
         let mut table = Table::default();
         for step in example.steps {
             let name = format!("{}: {step:?}", example.name);
@@ -36,7 +36,7 @@ fn table_examples() {
 
 #[test]
 fn table_examples_without_a_table() {
-    for example in TABLES.iter().chain(EXPERIMENTS) {
+    for example in TABLES.iter().chain(EXPERIMENTS).chain(WHOLE_NUMBERS) {
         let mut list = MessageList::default();
         for step in example.steps {
             let name = format!("{}: {step:?}", example.name);

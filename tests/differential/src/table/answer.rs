@@ -22,20 +22,21 @@ pub fn offer_answer(answer: Result<(), Refusal>) -> u64 {
     }
 }
 
-/// Refusal number, place, kind of value, value, port, mode, state, experiment number.
+/// Refusal number, place, kind of value, value, port, mode, state, experiment number. A whole number is in two's
+/// complement of 64 bits.
 pub fn dataset_cells(answer: Result<Dataset, Refusal>) -> [u64; DATASET_CELLS] {
     match answer {
         Err(refusal) => [refusal.number.into(), refusal.place as u64, 0, 0, 0, 0, 0, 0],
         Ok(dataset) => {
             let (kind, value) = match dataset.value {
-                Value::Whole(number) => (0, number),
-                Value::Float(bits) => (1, bits),
+                Value::Whole(number) => (0, i64::from(number) as u64),
+                Value::Float(bits) => (1, bits.into()),
             };
             [
                 0,
                 0,
                 kind,
-                value.into(),
+                value,
                 dataset.port.into(),
                 dataset.mode.into(),
                 dataset.state.number().into(),

@@ -1,7 +1,7 @@
 use std::collections::BTreeSet;
 use std::fmt;
 
-use yardstick::{Dataset, ExperimentTally, Offered, Port, Refusal, Table, Wiring};
+use yardstick::{Dataset, ExperimentTally, Offered, Port, Refusal, Table, Value, Wiring};
 
 /// How many numbers answers have: 0 for acceptance and the refusals.
 const NUMBERS: usize = 20;
@@ -11,6 +11,8 @@ const NUMBERS: usize = 20;
 pub struct TableTally {
     offered: [u64; NUMBERS],
     handed_out: [u64; NUMBERS],
+    /// Whole numbers that aren't negative, negative ones, and floats.
+    values: [u64; 3],
     /// Ports that were absent, unjoined, joined, virtual.
     wirings: [u64; 4],
     states: [u64; 4],
@@ -31,8 +33,14 @@ impl TableTally {
         self.handed_out[number(answer)] += 1;
     }
 
-    /// Counts the experiment number of a dataset that was handed out by a table.
-    pub fn count_experiment(&mut self, table: &Table, dataset: &Dataset) {
+    /// Counts the sign and the experiment number of a dataset that was handed out by a table.
+    pub fn count_dataset(&mut self, table: &Table, dataset: &Dataset) {
+        let value = match dataset.value {
+            Value::Whole(0..) => 0,
+            Value::Whole(_) => 1,
+            Value::Float(_) => 2,
+        };
+        self.values[value] += 1;
         self.experiments.count_handed_out(table, dataset);
     }
 
@@ -82,6 +90,13 @@ impl TableTally {
         }
     }
 
+    /// Panics unless whole numbers of each sign were handed out at least `least` times.
+    pub fn expect_signs(&self, least: u64) {
+        for &seen in &self.values[..2] {
+            assert!(seen >= least, "a sign came {seen} times, not {least}\n{self}");
+        }
+    }
+
     /// Panics unless ports of every wiring and every state, and known formats, came at least `least` times.
     pub fn expect_ports(&self, least: u64) {
         let counts = self.wirings.iter().chain(&self.states).chain([&self.formats]);
@@ -118,6 +133,13 @@ impl fmt::Display for TableTally {
             for (number, seen) in counts.iter().enumerate().filter(|(_, &seen)| seen > 0) {
                 write!(f, " {number}:{seen}")?;
             }
+        }
+        if sum(&self.values) > 0 {
+            let [others, negative, floats] = self.values;
+            write!(
+                f,
+                "\nwhole numbers: negative {negative}, others {others}; floats {floats}"
+            )?;
         }
         if sum(&self.wirings) > 0 {
             let [absent, unjoined, joined, virtual_ports] = self.wirings;

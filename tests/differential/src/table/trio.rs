@@ -2,7 +2,7 @@ use std::collections::BTreeSet;
 
 use yardstick::{MessageList, Offered, Table, Way, Wiring};
 
-use super::answer::{dataset_cells, format_cells, offer_answer, port_cells};
+use super::answer::{dataset_cells, format_cells, offer_answer, port_cells, DATASET_CELLS};
 use super::lent_table::LentTable;
 use super::tally::TableTally;
 
@@ -68,8 +68,14 @@ impl Trio {
         touched
     }
 
-    /// Hands out a dataset of a message as the next of the list.
-    pub fn hand_out(&mut self, tally: &mut TableTally, way: Way, message: &[u8], number: usize) {
+    /// Hands out a dataset of a message as the next of the list. Gives the product's cells.
+    pub fn hand_out(
+        &mut self,
+        tally: &mut TableTally,
+        way: Way,
+        message: &[u8],
+        number: usize,
+    ) -> [u64; DATASET_CELLS] {
         let answer = self.table.hand_out(way, message, number);
         let by_list = self.list.hand_out(way, message, number);
         let by_product = self.product.dataset(way, message, number);
@@ -84,8 +90,9 @@ impl Trio {
         );
         tally.count_handed_out(answer);
         if let Ok(dataset) = answer {
-            tally.count_experiment(&self.table, &dataset);
+            tally.count_dataset(&self.table, &dataset);
         }
+        by_product
     }
 
     /// Compares what is held about a port, and the formats of its modes.

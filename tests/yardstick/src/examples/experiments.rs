@@ -47,11 +47,11 @@ pub const EXPERIMENTS: &[TableExample] = &[
         accepted_in(9, Up, FORMAT_2),
         accepted_in(9, Up, ANSWER_0),
         set_up(0, Unjoined, NothingAsked, None, setup(0, 1, true)),
-        handed_out(VALUE_1, 0, [0, 0], NothingAsked, Whole(0xFE)),
+        handed_out(VALUE_1, 0, [0, 0], NothingAsked, Whole(-2)),
         // A late value, still in the old mode.
         accepted_in(301, Down, ASK_2),
         set_up_in(301, 0, Unjoined, Unanswered, setup(2, 1, true), setup(0, 1, true)),
-        handed_out(VALUE_1, 0, [0, 0], Unanswered, Whole(0xFE)),
+        handed_out(VALUE_1, 0, [0, 0], Unanswered, Whole(-2)),
         // Another delta than asked.
         accepted_in(301, Up, "0A 00 47 00 02 02 00 00 00 01"),
         set_up_in(301, 0, Unjoined, Otherwise, setup(2, 1, true), setup(2, 2, true)),
@@ -61,7 +61,7 @@ pub const EXPERIMENTS: &[TableExample] = &[
         handed_out_in(301, VALUE_4, 0, [0, 2], AsAsked, Whole(5)),
         accepted_in(9, Up, ANSWER_0),
         set_up_in(301, 0, Unjoined, Otherwise, setup(2, 1, true), setup(0, 1, true)),
-        handed_out(VALUE_1, 0, [0, 0], Otherwise, Whole(0xFE)),
+        handed_out(VALUE_1, 0, [0, 0], Otherwise, Whole(-2)),
     ] },
     TableExample { name: "the latest asking counts, even of the same setup", steps: &[
         accepted(Up, ATTACH_0),

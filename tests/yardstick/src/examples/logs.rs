@@ -99,6 +99,28 @@ pub const LOGS: &[LogExample] = &[
                 total 13 refused 0\n",
     },
     LogExample {
+        name: "a motor turned back by three degrees, and other whole numbers: a minus sign, no plus",
+        records: &[
+            ("01 00 00 00", ATTACH), ("01 00 00 00", FORMAT), ("01 00 00 00", ANSWER),
+            ("01 00 00 00", "08 00 45 00 FD FF FF FF"), ("01 00 00 00", "08 00 45 00 00 00 00 80"),
+            ("01 00 00 00", "08 00 45 00 FF FF FF 7F"), ("01 00 00 00", "08 00 45 00 00 00 00 00"),
+            ("01 00 00 00", "0A 00 44 00 02 80 04 00 04 00"), ("01 00 00 00", "08 00 45 00 FF 80 7F 00"),
+            ("01 00 00 00", "0A 00 44 00 02 80 03 01 05 00"), ("01 00 00 00", "0A 00 45 00 FD FF FF 7F 00 80"),
+        ],
+        lines: "1 0\n2 0\n3 0\n4 0 0 2 0 0 -3\n5 0 0 2 0 0 -2147483648\n6 0 0 2 0 0 2147483647\n7 0 0 2 0 0 0\n\
+                8 0\n9 0 0 2 0 0 -1 -128 127 0\n10 0\n11 0 0 2 0 0 -3 32767 -32768\ntotal 11 refused 0\n",
+    },
+    LogExample {
+        name: "floats are their 32 bits without a sign",
+        records: &[
+            ("01 00 00 00", ATTACH), ("01 00 00 00", "0A 00 44 00 02 80 02 03 04 00"), ("01 00 00 00", ANSWER),
+            ("01 00 00 00", "0C 00 45 00 00 00 80 BF FF FF 7F 7F"),
+            ("01 00 00 00", "0C 00 45 00 FF FF 7F FF 00 00 00 80"),
+        ],
+        lines: "1 0\n2 0\n3 0\n4 0 0 2 0 0 3212836864 2139095039\n5 0 0 2 0 0 4286578687 2147483648\n\
+                total 5 refused 0\n",
+    },
+    LogExample {
         name: "bytes 6 and 7 are not looked at by refusal 19, byte 5 is",
         records: &[
             ("00 00 FF FF", "03 00 12"), ("00 00 01 00", "03 00 12"), ("00 00 00 80", "03 00 12"),

@@ -10,6 +10,7 @@ mod order;
 mod sound;
 mod table_step;
 mod tables;
+mod whole_numbers;
 mod writing;
 
 use std::ops::Range;
@@ -29,6 +30,7 @@ pub use order::ORDER;
 pub use sound::{SoundExample, SOUND};
 pub use table_step::{TableExample, TableStep};
 pub use tables::TABLES;
+pub use whole_numbers::WHOLE_NUMBERS;
 pub use writing::{Unwritten, WRITING};
 
 /// A message with its answer.

@@ -285,8 +285,8 @@ impl Bench {
         for dataset in 0..datasets {
             let level = link.level + 7 * i32::from(dataset);
             match kind {
-                0 => bytes.push((level % 100) as u8),
-                1 => bytes.extend(((level % 10_000) as u16).to_le_bytes()),
+                0 => bytes.extend(((level % 100) as i8).to_le_bytes()),
+                1 => bytes.extend(((level % 10_000) as i16).to_le_bytes()),
                 2 => bytes.extend(level.to_le_bytes()),
                 _ => bytes.extend((level as f32 / 8.0).to_le_bytes()),
             }

@@ -205,6 +205,10 @@ impl Hour {
             &[0x0B, 0x00, 0x81, 0x00, 0x11, 0x51, 0x02, 0x00, 0x00, 0x00, 0x00],
         );
         self.wide(MOTOR_A, &[0]);
+        // The brake lets go, and motor A turns back past 0: it swings to -8 degrees and comes to rest at -3.
+        self.time += 400;
+        self.wide(MOTOR_A, &[-8]);
+        self.wide(MOTOR_A, &[-3]);
     }
 
     /// Motor A goes from one position to the next, an eighth of a turn at a time. The load cell and the current are not
@@ -304,13 +308,13 @@ impl Hour {
     /// Motor A runs at three speeds.
     fn third_experiment(&mut self) {
         for (minute, speed, force) in [(51, 250, 1.25), (53, 400, 2.75), (55, 550, 4.75)] {
-            for second in [0, 20, 40] {
+            for (second, faster) in [(0, 0), (20, 1), (40, 2)] {
                 self.at(minute, second);
-                self.wide(MOTOR_A, &[speed + second / 20]);
+                self.wide(MOTOR_A, &[speed + faster]);
                 self.wide(MOTOR_B, &[speed - 1]);
                 self.floats(LOAD_CELL, &[force]);
             }
-            self.narrow(CURRENT, &[speed as u16 / 2 + 60]);
+            self.narrow(CURRENT, &[speed as i16 / 2 + 60]);
         }
         self.narrow(VOLTAGE, &[6480]);
     }
@@ -372,13 +376,13 @@ impl Hour {
     }
 
     /// A value whose datasets are four bytes each.
-    fn wide(&mut self, port: u64, datasets: &[u32]) {
+    fn wide(&mut self, port: u64, datasets: &[i32]) {
         let bytes: Vec<u8> = datasets.iter().flat_map(|number| number.to_le_bytes()).collect();
         self.value(port, &bytes);
     }
 
     /// A value whose datasets are two bytes each.
-    fn narrow(&mut self, port: u64, datasets: &[u16]) {
+    fn narrow(&mut self, port: u64, datasets: &[i16]) {
         let bytes: Vec<u8> = datasets.iter().flat_map(|number| number.to_le_bytes()).collect();
         self.value(port, &bytes);
     }
