@@ -40,7 +40,7 @@ accepted value it goes on with
              2 answered as asked
              3 answered otherwise
   the number of the experiment that asked, in state 2; else 0
-  the datasets: whole numbers, and floats as their 32 bits
+  the datasets: signed whole numbers, and floats as their 32 bits
 
 The totals are the number of records and how many of them are refused.
 If a read or a write fails, it is told on standard error, and there are no
