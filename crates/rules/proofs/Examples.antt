@@ -18,4 +18,4 @@ use Rattle.rules.specs.Examples.{ExamplesHold}
 
 pub examples-hold : ExamplesHold
 unfolding decode decodeWay decodeType decodeForm layout informationType longestModeText littleEndian bigEndian ofBits types hubAttachedIo portInformation portModeInformation hubActions downAction virtualPortSetup effectOf valueLookup judge datasetOf datasetAnswer settingsOf sinceAttached viewOfHistory modesOfHistory fullHistory judgeEntry datasetMessage learn wellFormed
-examples-hold = (refl, refl, refl, refl, refl, refl, refl, refl, refl, refl, refl, refl, refl, refl, refl)
+examples-hold = (refl, (refl, refl, refl), refl, refl, refl, refl, refl, refl, refl, refl, refl, refl, refl, refl, refl, refl)

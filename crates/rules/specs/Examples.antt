@@ -6,7 +6,7 @@ use mathlib.Core.Bool.{Bool, true, false}
 use mathlib.Core.List.{List, [], _∷_, _++_, map}
 use mathlib.Core.Option.{Option, none, some}
 use lib.Ieee.{fin}
-use lib.IntN.{pos, negℤ}
+use lib.IntN.{ℤ, pos, negℤ}
 use lib.ListN.{length}
 use Rattle.protocol.specs.Form.{upFrom}
 use Rattle.protocol.specs.declared.Way.the-variants.{Down, Up}
@@ -18,7 +18,7 @@ use Rattle.rules.specs.Judge.{widthOf, judgeDisconnect}
 use Rattle.rules.specs.Learn.{bareSettings, learn}
 use Rattle.rules.specs.Offer.{Entry, offerByPast, datasetByPast, viewOfPast}
 use Rattle.rules.specs.Table.{Record, Table, bare}
-use Rattle.rules.specs.Dataset.{Dataset, Number, whole, float, stamped}
+use Rattle.rules.specs.Dataset.{Dataset, Number, whole, float, stamped, wholeAt}
 use Rattle.rules.specs.WellFormed.{wellFormed}
 
 -- ---- messages
@@ -277,18 +277,12 @@ readings =
     ∷ hands (attached 0 ∷ format 2 1 3 ∷ answered 2 1 1 ∷ []) (value (0x00 ∷ 0x00 ∷ 0x80 ∷ 0x7F ∷ [])) 0 (refused 18 0)
     ∷ []
 
--- two datasets of each kind, the second below 0 and the first not, and the other way round; and a float
+-- two datasets of each kind, the second below 0, and a float
 abbrev datasets : List Example
 datasets =
     second 0 (0x01 ∷ 0xFF ∷ []) (whole (negℤ (pos 1)))
-    ∷ second 0 (0xFF ∷ 0x7F ∷ []) (whole (pos 127))
-    ∷ second 0 (0x7F ∷ 0x80 ∷ []) (whole (negℤ (pos 128)))
-    ∷ second 1 (0x01 ∷ 0x00 ∷ 0xFD ∷ 0xFF ∷ []) (whole (negℤ (pos 3)))
-    ∷ second 1 (0xFF ∷ 0x7F ∷ 0x00 ∷ 0x80 ∷ []) (whole (negℤ (pos 32768)))
-    ∷ second 1 (0xFD ∷ 0xFF ∷ 0x02 ∷ 0x01 ∷ []) (whole (pos 258))
+    ∷ second 1 (0x02 ∷ 0x01 ∷ 0xFD ∷ 0xFF ∷ []) (whole (negℤ (pos 3)))
     ∷ second 2 (0x01 ∷ 0x00 ∷ 0x00 ∷ 0x00 ∷ 0xFD ∷ 0xFF ∷ 0xFF ∷ 0xFF ∷ []) (whole (negℤ (pos 3)))
-    ∷ second 2 (0xFF ∷ 0xFF ∷ 0xFF ∷ 0x7F ∷ 0x00 ∷ 0x00 ∷ 0x00 ∷ 0x80 ∷ []) (whole (negℤ (pos 2147483648)))
-    ∷ second 2 (0xFD ∷ 0xFF ∷ 0xFF ∷ 0xFF ∷ 0x02 ∷ 0x00 ∷ 0x01 ∷ 0x00 ∷ []) (whole (pos 65538))
     ∷ second 3 (0x00 ∷ 0x00 ∷ 0x00 ∷ 0x00 ∷ 0x00 ∷ 0x00 ∷ 0x48 ∷ 0x43 ∷ []) (float (fin false 25 (pos 3)))
     ∷ []
 
@@ -348,6 +342,16 @@ presence =
 abbrev Widths : Type 0
 Widths = map widthOf (0 ∷ 1 ∷ 2 ∷ 3 ∷ []) ≡ 1 ∷ 2 ∷ 4 ∷ 4 ∷ []
 
+-- three datasets of a kind, each with its own sign
+abbrev three : ℕ → List ℕ → List ℤ
+three kind bytes = map (wholeAt kind bytes) (0 ∷ 1 ∷ 2 ∷ [])
+
+abbrev WholeNumbers : Type 0
+WholeNumbers =
+    (three 0 (0xFF ∷ 0x7F ∷ 0x80 ∷ []) ≡ negℤ (pos 1) ∷ pos 127 ∷ negℤ (pos 128) ∷ [])
+    × (three 1 (0xFD ∷ 0xFF ∷ 0xFF ∷ 0x7F ∷ 0x00 ∷ 0x80 ∷ []) ≡ negℤ (pos 3) ∷ pos 32767 ∷ negℤ (pos 32768) ∷ [])
+    × (three 2 (0xFD ∷ 0xFF ∷ 0xFF ∷ 0xFF ∷ 0xFF ∷ 0xFF ∷ 0xFF ∷ 0x7F ∷ 0x00 ∷ 0x00 ∷ 0x00 ∷ 0x80 ∷ []) ≡ negℤ (pos 3) ∷ pos 2147483647 ∷ negℤ (pos 2147483648) ∷ [])
+
 -- a value's experiment number at a port whose number is 7, by the state
 abbrev inState : ℕ → Settings
 inState state = record { formats = λ mode. none; answered = none; asked = none; state = state; experiment = 7 }
@@ -367,6 +371,7 @@ Hold rows = map (λ e. e .said) rows ≡ map (λ e. e .wanted) rows
 abbrev pub ExamplesHold : Type 0
 ExamplesHold =
     Widths
+    × WholeNumbers
     × ValueExperiments
     × Disconnections
     × Hold theLog
