@@ -66,8 +66,9 @@ pub(crate) fn put_signed(out: &mut [u8], at: usize, n: i64) -> usize
     if 0 <= n {
         return put_digits(out, at, size);
     }
+    let k = put_digits(out, at + 1, size);
     out[at] = 45;
-    1 + put_digits(out, at + 1, size)
+    k + 1
 }
 
 // Puts a number's decimal digits at an index, where they fit, and answers how many there are.
