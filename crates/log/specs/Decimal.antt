@@ -8,7 +8,7 @@ use lib.IntN.{ℤ, pos, negsuc}
 abbrev pub digit : ℕ → ℕ
 digit n = 48 + n
 
--- with at most so many digits; one where the number is below 10
+-- with at most so many digits, by whether the number is below 10
 abbrev pub decimalBy : ℕ → Bool → ℕ → List ℕ
 decimalBy zero small n = []
 decimalBy (suc k) true n = digit n ∷ []
@@ -37,6 +37,6 @@ abbrev pub spaced : List ℤ → List ℕ
 spaced [] = newline ∷ []
 spaced (n ∷ ns) = space ∷ (signedDecimal n ++ spaced ns)
 
--- a line of numbers with single spaces between them, the first its own number
+-- a line: its own number and those after it, with single spaces between them
 abbrev pub lineText : ℕ → List ℤ → List ℕ
 lineText n ns = decimal n ++ spaced ns
