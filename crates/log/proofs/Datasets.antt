@@ -5,10 +5,10 @@ use mathlib.Core.Path.{_≡_, refl, sym, _∙_, ap}
 use mathlib.Core.Bool.{Bool, true, false, cond, _&&_}
 use mathlib.Core.List.{List, _∷_}
 use mathlib.Core.Option.{Option, none, some}
-use mathlib.Core.Logic.{_⊎_, ⊎-elim}
+use mathlib.Core.Logic.{⊎-elim}
 use borrow.Author.Tests.{lt-ltb, le-ltb}
 use lib.Dec.{eqb}
-use lib.Ieee.{binary32, ofBits, toBits}
+use lib.Ieee.{binary32, ofBits}
 use lib.Ieee.Bits.{toBits-ofBits}
 use lib.IntN.{ℤ, pos}
 use Rattle.protocol.specs.Form.{mostDatasets}
@@ -18,9 +18,14 @@ use Rattle.protocol.proofs.Tests.{which, and-left}
 use Rattle.rules.specs.declared.Format.{Format}
 use Rattle.rules.specs.Answer as Answer
 use Rattle.rules.specs.Answer.{Answer}
-use Rattle.rules.specs.Dataset.{Dataset, whole, float, stamped, floatDataset, bitsAt, wholeAt, datasetOf}
-use Rattle.log.specs.Dataset.{printedAt, numbersAt, finiteFrom}
-use Rattle.log.specs.Line.{refused, values, withNumber, followedBy, numbersFrom, withNumbers, valueLine}
+use Rattle.rules.specs.Dataset.{Dataset, Number, whole, float, stamped, bitsAt, wholeAt, datasetOf}
+use Rattle.log.specs.Dataset.{printedAt, numbersAt, finiteAt, finiteFrom}
+use Rattle.log.specs.Line.{refused, values, printedNumber, withNumber, followedBy, numbersFrom, withNumbers, valueLine}
+
+-- whole numbers are finite
+pub whole-finite : (kind : ℕ) → eqb kind 3 ≡ false → (bytes : List ℕ) (k n : ℕ) → finiteFrom kind bytes k n ≡ true
+whole-finite kind other bytes k zero = refl
+whole-finite kind other bytes k (suc n) = λ i. cond (other i) (isFinite (ofBits binary32 (bitsAt 4 bytes k))) true && whole-finite kind other bytes (suc k) n i
 
 module _ (port mode state experiment : ℕ) (f : Format) (bytes : List ℕ) where
   abbrev dataset : ℕ → Answer Dataset
@@ -30,80 +35,81 @@ module _ (port mode state experiment : ℕ) (f : Format) (bytes : List ℕ) wher
   unfolding datasetOf
   past-all k h = rw (le-ltb k (f .datasets) h)
 
-  -- ---- whole numbers
+  -- ---- one dataset: its number, or 18
 
-  module _ (other : eqb (f .kind) 3 ≡ false) where
-    one-whole : (k : ℕ) → k < f .datasets → dataset k ≡ stamped port mode state experiment (whole (printedAt (f .kind) bytes k))
+  record One (k : ℕ) : Type 0 where
+    number : Number
+    handed : dataset k ≡ cond (finiteAt (f .kind) bytes k) (stamped port mode state experiment number) (Answer.refused 18 0)
+    printed : finiteAt (f .kind) bytes k ≡ true → printedNumber number ≡ printedAt (f .kind) bytes k
+
+  -- floats have 32 bits
+  module _ (small : eqb (f .kind) 3 ≡ true → (k : ℕ) → k < f .datasets → bitsAt 4 bytes k < 4294967296) where
+    one : (k : ℕ) → k < f .datasets → One k
     unfolding datasetOf
-    one-whole k h = rw (lt-ltb k (f .datasets) h, other)
+    one k h =
+        let bits : ℕ = bitsAt 4 bytes k in
+        ⊎-elim
+        (λ (x : eqb (f .kind) 3 ≡ true). record {
+          number = float (ofBits binary32 bits);
+          handed = rw (lt-ltb k (f .datasets) h, x);
+          printed = λ (e : finiteAt (f .kind) bytes k ≡ true).
+              let finite : isFinite (ofBits binary32 bits) ≡ true = sym (ap (λ (b : Bool). cond b (isFinite (ofBits binary32 bits)) true) x) ∙ e in
+              ap pos (toBits-ofBits binary32 bits (omega (arith, small x k h)) (not-nan (ofBits binary32 bits) finite)) ∙ sym (ap (λ (b : Bool). cond b (pos bits) (wholeAt (f .kind) bytes k)) x);
+        })
+        (λ (x : eqb (f .kind) 3 ≡ false). record {
+          number = whole (wholeAt (f .kind) bytes k);
+          handed = rw (lt-ltb k (f .datasets) h, x);
+          printed = λ (e : finiteAt (f .kind) bytes k ≡ true). sym (ap (λ (b : Bool). cond b (pos bits) (wholeAt (f .kind) bytes k)) x);
+        })
+        (which (eqb (f .kind) 3))
 
-    wholes : (most k n : ℕ) → n ≤ most → k + n ≡ f .datasets → numbersFrom most dataset k ≡ some (numbersAt (f .kind) bytes k n)
-    wholes zero k zero h e = refl
-    wholes (suc most) k zero h e = ap (λ (x : Answer Dataset). followedBy x (numbersFrom most dataset (suc k))) (past-all k (omega arith))
-    wholes zero k (suc n) h e = absurd (omega arith)
-    wholes (suc most) k (suc n) h e =
-        ap (λ (x : Answer Dataset). followedBy x (numbersFrom most dataset (suc k))) (one-whole k (omega arith))
-        ∙ ap (withNumber (printedAt (f .kind) bytes k)) (wholes most (suc k) n (omega arith) (omega arith))
-
-    pub whole-line : 1 ≤ f .datasets → f .datasets ≤ mostDatasets → valueLine dataset ≡ values port mode state experiment (numbersAt (f .kind) bytes 0 (f .datasets))
-    unfolding valueLine
-    whole-line some-there few = λ i. withNumbers (one-whole 0 some-there i) (wholes mostDatasets 0 (f .datasets) few (omega arith) i)
-
-  -- ---- floats
-
-  module _ (is-float : eqb (f .kind) 3 ≡ true) (small : (k : ℕ) → k < f .datasets → bitsAt 4 bytes k < 4294967296) where
-    one-float : (k : ℕ) → k < f .datasets → dataset k ≡ floatDataset port mode state experiment (ofBits binary32 (bitsAt 4 bytes k))
-    unfolding datasetOf
-    one-float k h = rw (lt-ltb k (f .datasets) h, is-float)
-
-    bits-back : (k : ℕ) → k < f .datasets → isFinite (ofBits binary32 (bitsAt 4 bytes k)) ≡ true → pos (toBits binary32 (ofBits binary32 (bitsAt 4 bytes k))) ≡ printedAt (f .kind) bytes k
-    bits-back k h e =
-        ap pos (toBits-ofBits binary32 (bitsAt 4 bytes k) (omega (arith, small k h)) (not-nan (ofBits binary32 (bitsAt 4 bytes k)) e))
-        ∙ sym (ap (λ (b : Bool). cond b (pos (bitsAt 4 bytes k)) (wholeAt (f .kind) bytes k)) is-float)
-
-    -- a float that is finite, and one that is not
-    finite-one : (k : ℕ) → k < f .datasets → isFinite (ofBits binary32 (bitsAt 4 bytes k)) ≡ true → dataset k ≡ stamped port mode state experiment (float (ofBits binary32 (bitsAt 4 bytes k)))
-    finite-one k h e = rw (one-float k h, e)
-
-    other-one : (k : ℕ) → k < f .datasets → isFinite (ofBits binary32 (bitsAt 4 bytes k)) ≡ false → dataset k ≡ Answer.refused 18 0
-    other-one k h e = rw (one-float k h, e)
+    -- ---- all of them
 
     abbrev gathered : ℕ → ℕ → Option (List ℤ)
-    gathered k n = cond (finiteFrom bytes k n) (some (numbersAt (f .kind) bytes k n)) none
+    gathered k n = cond (finiteFrom (f .kind) bytes k n) (some (numbersAt (f .kind) bytes k n)) none
 
     joined : (b : Bool) (n : ℤ) (ns : List ℤ) → withNumber n (cond b (some ns) none) ≡ cond b (some (n ∷ ns)) none
     joined true n ns = refl
     joined false n ns = refl
 
-    floats : (most k n : ℕ) → n ≤ most → k + n ≡ f .datasets → numbersFrom most dataset k ≡ gathered k n
-    floats zero k zero h e = refl
-    floats (suc most) k zero h e = ap (λ (x : Answer Dataset). followedBy x (numbersFrom most dataset (suc k))) (past-all k (omega arith))
-    floats zero k (suc n) h e = absurd (omega arith)
-    floats (suc most) k (suc n) h e =
-        ⊎-elim
-        (λ (x : isFinite (ofBits binary32 (bitsAt 4 bytes k)) ≡ true).
-        ap (λ (y : Answer Dataset). followedBy y (numbersFrom most dataset (suc k))) (finite-one k (omega arith) x)
-        ∙ (λ i. withNumber (bits-back k (omega arith) x i) (floats most (suc k) n (omega arith) (omega arith) i))
-        ∙ joined (finiteFrom bytes (suc k) n) (printedAt (f .kind) bytes k) (numbersAt (f .kind) bytes (suc k) n)
-        ∙ sym (ap (λ (b : Bool). cond (b && finiteFrom bytes (suc k) n) (some (numbersAt (f .kind) bytes k (suc n))) none) x))
-        (λ (x : isFinite (ofBits binary32 (bitsAt 4 bytes k)) ≡ false).
-        ap (λ (y : Answer Dataset). followedBy y (numbersFrom most dataset (suc k))) (other-one k (omega arith) x)
-        ∙ sym (ap (λ (b : Bool). cond (b && finiteFrom bytes (suc k) n) (some (numbersAt (f .kind) bytes k (suc n))) none) x))
-        (which (isFinite (ofBits binary32 (bitsAt 4 bytes k))))
+    -- one more before those that were gathered
+    first : (k n : ℕ) → k < f .datasets → followedBy (dataset k) (gathered (suc k) n) ≡ gathered k (suc n)
+    first k n h =
+        let o : One k = one k h in
+        let rest : Option (List ℤ) = gathered (suc k) n in
+        ap (λ (y : Answer Dataset). followedBy y rest) (o .handed)
+        ∙ ⊎-elim
+        (λ (x : finiteAt (f .kind) bytes k ≡ true).
+        ap (λ (b : Bool). followedBy (cond b (stamped port mode state experiment (o .number)) (Answer.refused 18 0)) rest) x
+        ∙ ap (λ (z : ℤ). withNumber z rest) (o .printed x)
+        ∙ joined (finiteFrom (f .kind) bytes (suc k) n) (printedAt (f .kind) bytes k) (numbersAt (f .kind) bytes (suc k) n)
+        ∙ sym (ap (λ (b : Bool). cond (b && finiteFrom (f .kind) bytes (suc k) n) (some (numbersAt (f .kind) bytes k (suc n))) none) x))
+        (λ (x : finiteAt (f .kind) bytes k ≡ false).
+        ap (λ (b : Bool). followedBy (cond b (stamped port mode state experiment (o .number)) (Answer.refused 18 0)) rest) x
+        ∙ sym (ap (λ (b : Bool). cond (b && finiteFrom (f .kind) bytes (suc k) n) (some (numbersAt (f .kind) bytes k (suc n))) none) x))
+        (which (finiteAt (f .kind) bytes k))
 
-    -- all finite: the first of them is
-    first-finite : (n : ℕ) → finiteFrom bytes 0 (suc n) ≡ true → isFinite (ofBits binary32 (bitsAt 4 bytes 0)) ≡ true
-    first-finite n e = and-left (isFinite (ofBits binary32 (bitsAt 4 bytes 0))) (finiteFrom bytes 1 n) e
+    all-from : (most k n : ℕ) → n ≤ most → k + n ≡ f .datasets → numbersFrom most dataset k ≡ gathered k n
+    all-from zero k zero h e = refl
+    all-from (suc most) k zero h e = ap (λ (x : Answer Dataset). followedBy x (numbersFrom most dataset (suc k))) (past-all k (omega arith))
+    all-from zero k (suc n) h e = absurd (omega arith)
+    all-from (suc most) k (suc n) h e = ap (followedBy (dataset k)) (all-from most (suc k) n (omega arith) (omega arith)) ∙ first k n (omega arith)
 
-    pub float-line : 1 ≤ f .datasets → f .datasets ≤ mostDatasets → finiteFrom bytes 0 (f .datasets) ≡ true → valueLine dataset ≡ values port mode state experiment (numbersAt (f .kind) bytes 0 (f .datasets))
+    -- ---- the line
+
+    pub numbers-line : 1 ≤ f .datasets → f .datasets ≤ mostDatasets → finiteFrom (f .kind) bytes 0 (f .datasets) ≡ true → valueLine dataset ≡ values port mode state experiment (numbersAt (f .kind) bytes 0 (f .datasets))
     unfolding valueLine
-    float-line some-there few e =
+    numbers-line some-there few e =
         let n : ℕ = f .datasets - 1 in
         let count : f .datasets ≡ suc n = omega arith in
-        let first : dataset 0 ≡ stamped port mode state experiment (float (ofBits binary32 (bitsAt 4 bytes 0))) = finite-one 0 some-there (first-finite n (sym (ap (finiteFrom bytes 0) count) ∙ e)) in
-        let all : numbersFrom mostDatasets dataset 0 ≡ some (numbersAt (f .kind) bytes 0 (f .datasets)) = floats mostDatasets 0 (f .datasets) few (omega arith) ∙ ap (λ (b : Bool). cond b (some (numbersAt (f .kind) bytes 0 (f .datasets))) none) e in
-        λ i. withNumbers (first i) (all i)
+        let finite : finiteAt (f .kind) bytes 0 ≡ true = and-left (finiteAt (f .kind) bytes 0) (finiteFrom (f .kind) bytes 1 n) (sym (ap (finiteFrom (f .kind) bytes 0) count) ∙ e) in
+        let o : One 0 = one 0 some-there in
+        let handed : dataset 0 ≡ stamped port mode state experiment (o .number) = o .handed ∙ ap (λ (b : Bool). cond b (stamped port mode state experiment (o .number)) (Answer.refused 18 0)) finite in
+        let all : numbersFrom mostDatasets dataset 0 ≡ some (numbersAt (f .kind) bytes 0 (f .datasets)) =
+        all-from mostDatasets 0 (f .datasets) few (omega arith) ∙ ap (λ (b : Bool). cond b (some (numbersAt (f .kind) bytes 0 (f .datasets))) none) e
+        in
+        λ i. withNumbers (handed i) (all i)
 
-    pub line-18 : f .datasets ≤ mostDatasets → finiteFrom bytes 0 (f .datasets) ≡ false → valueLine dataset ≡ refused 18
+    pub line-18 : f .datasets ≤ mostDatasets → finiteFrom (f .kind) bytes 0 (f .datasets) ≡ false → valueLine dataset ≡ refused 18
     unfolding valueLine
-    line-18 few e = ap (withNumbers (dataset 0)) (floats mostDatasets 0 (f .datasets) few (omega arith) ∙ ap (λ (b : Bool). cond b (some (numbersAt (f .kind) bytes 0 (f .datasets))) none) e)
+    line-18 few e = ap (withNumbers (dataset 0)) (all-from mostDatasets 0 (f .datasets) few (omega arith) ∙ ap (λ (b : Bool). cond b (some (numbersAt (f .kind) bytes 0 (f .datasets))) none) e)
