@@ -9,6 +9,7 @@ use Rattle.rules.specs.Effect.{effectOf}
 use Rattle.rules.specs.ValueLookup.{valueLookup}
 use Rattle.rules.specs.Judge.{judge}
 use Rattle.rules.specs.Dataset.{datasetOf, datasetAnswer}
+use Rattle.rules.specs.Datasets.{allDatasets}
 use Rattle.rules.specs.Learn.{learn}
 use Rattle.rules.specs.Table.{apply}
 use Rattle.rules.specs.WellFormed.{wellFormed}
@@ -32,15 +33,15 @@ pub values-line : ValuesLine
 values-line = refl
 
 pub six-records : SixRecords
-unfolding decode decodeWay decodeType decodeForm layout littleEndian types hubAttachedIo portModeInformation effectOf valueLookup judge datasetOf datasetAnswer learn apply wellFormed recordCells cellsOf recordAt tableAt sound emptyCells judgeEntry datasetMessage offerByCells cellsAfter datasetByCells decimal messageIn experimentIn malformed valueLine recordLine cellsAfterRecord allLines totalText output
+unfolding decode decodeWay decodeType decodeForm layout littleEndian types hubAttachedIo portModeInformation effectOf valueLookup judge datasetOf datasetAnswer learn apply wellFormed recordCells cellsOf recordAt tableAt sound emptyCells judgeEntry datasetMessage offerByCells cellsAfter datasetByCells decimal messageIn experimentIn malformed allDatasets valueLine recordLine cellsAfterRecord allLines totalText output
 six-records = refl
 
 pub other-records : OtherRecords
-unfolding decode decodeWay decodeType decodeForm layout littleEndian types hubAttachedIo portModeInformation effectOf valueLookup judge datasetOf datasetAnswer learn apply wellFormed recordCells cellsOf recordAt tableAt sound emptyCells judgeEntry datasetMessage offerByCells cellsAfter datasetByCells decimal messageIn experimentIn malformed valueLine recordLine cellsAfterRecord allLines totalText output
+unfolding decode decodeWay decodeType decodeForm layout littleEndian types hubAttachedIo portModeInformation effectOf valueLookup judge datasetOf datasetAnswer learn apply wellFormed recordCells cellsOf recordAt tableAt sound emptyCells judgeEntry datasetMessage offerByCells cellsAfter datasetByCells decimal messageIn experimentIn malformed allDatasets valueLine recordLine cellsAfterRecord allLines totalText output
 other-records = refl
 
 pub signed-records : SignedRecords
-unfolding decode decodeWay decodeType decodeForm layout littleEndian ofBits toBits types hubAttachedIo portModeInformation effectOf valueLookup judge datasetOf datasetAnswer learn apply wellFormed recordCells cellsOf recordAt tableAt sound emptyCells judgeEntry datasetMessage offerByCells cellsAfter datasetByCells decimal messageIn experimentIn malformed valueLine recordLine cellsAfterRecord allLines totalText output
+unfolding decode decodeWay decodeType decodeForm layout littleEndian ofBits toBits types hubAttachedIo portModeInformation effectOf valueLookup judge datasetOf datasetAnswer learn apply wellFormed recordCells cellsOf recordAt tableAt sound emptyCells judgeEntry datasetMessage offerByCells cellsAfter datasetByCells decimal messageIn experimentIn malformed allDatasets valueLine recordLine cellsAfterRecord allLines totalText output
 signed-records = refl
 
 pub empty-input : EmptyInput

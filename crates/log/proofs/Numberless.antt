@@ -3,16 +3,14 @@ use Prim.Native.Nat.{ℕ, zero, suc, _*_}
 use mathlib.Core.Path.{_≡_, refl}
 use mathlib.Core.Bool.{true}
 use mathlib.Core.List.{List, [], _∷_, _++_}
-use mathlib.Core.Option.{Option, none, some}
-use lib.IntN.{ℤ}
 use lib.ListN.{take, drop}
-use Rattle.protocol.specs.Form.{mostDatasets}
 use Rattle.protocol.specs.Number.{Bytes}
 use Rattle.protocol.proofs.Bytes.{Bytes-take, Bytes-drop}
 use Rattle.rules.specs.Answer as Answer
 use Rattle.rules.specs.Answer.{Answer}
 use Rattle.rules.specs.Cells.{tableAt, sound, emptyCells}
 use Rattle.rules.specs.Dataset.{Dataset}
+use Rattle.rules.specs.Datasets.{allDatasets}
 use Rattle.rules.specs.Laws.{NoNumbers, datasetExperiment}
 use Rattle.rules.specs.Offer.{Entry, offerByCells, cellsAfter, datasetByCells}
 use Rattle.rules.specs.declared.Effect.{Effect}
@@ -21,17 +19,17 @@ use Rattle.rules.proofs.Experiments.{empty-no-numbers, step-keeps-no-numbers, v
 use Rattle.rules.proofs.Laws.{empty-sound}
 use Rattle.rules.proofs.SettingsFit.{either-way}
 use Rattle.log.specs.Record.{recordSize, experimentIn, entryOf, malformed}
-use Rattle.log.specs.Line.{Line, refused, numbersFrom, withNumbers, valueLine, acceptedLine, answerLine, entryLine, recordLine, cellsAfterRecord}
+use Rattle.log.specs.Line.{Line, refused, withDatasets, valueLine, acceptedLine, answerLine, entryLine, recordLine, cellsAfterRecord}
 use Rattle.log.specs.Output.{linesOf, records, lastLine, allLines}
 use Rattle.log.specs.Laws.{NumbersZero, lineExperiment, ValuesZero, NumberlessLog}
 use Rattle.log.proofs.AfterRecord.{entry-fits, record-keeps-sound}
 
 -- ---- a line
 
-with-zero : (a : Answer Dataset) → datasetExperiment a ≡ 0 → (ns : Option (List ℤ)) → lineExperiment (withNumbers a ns) ≡ 0
-with-zero a e none = refl
-with-zero (Answer.refused n place) e (some ns) = refl
-with-zero (Answer.accepted d) e (some ns) = e
+with-zero : (a : Answer Dataset) → datasetExperiment a ≡ 0 → (all : Answer (List Dataset)) → lineExperiment (withDatasets a all) ≡ 0
+with-zero a e (Answer.refused n place) = refl
+with-zero (Answer.refused n place) e (Answer.accepted ds) = refl
+with-zero (Answer.accepted d) e (Answer.accepted ds) = e
 
 accepted-zero : (dataset : ℕ → Answer Dataset) → datasetExperiment (dataset 0) ≡ 0 → (x : Effect) → lineExperiment (acceptedLine dataset x) ≡ 0
 unfolding valueLine
@@ -40,7 +38,7 @@ accepted-zero dataset e (Effect'.ToPort port c) = refl
 accepted-zero dataset e (Effect'.Attach port device) = refl
 accepted-zero dataset e (Effect'.AttachVirtual port device a b) = refl
 accepted-zero dataset e (Effect'.Detach port) = refl
-accepted-zero dataset e (Effect'.Value port) = with-zero (dataset 0) e (numbersFrom mostDatasets dataset 0)
+accepted-zero dataset e (Effect'.Value port) = with-zero (dataset 0) e (allDatasets dataset)
 accepted-zero dataset e (Effect'.Disconnect port) = refl
 accepted-zero dataset e (Effect'.Connect a b) = refl
 accepted-zero dataset e Effect'.Empty = refl

@@ -1,17 +1,15 @@
 -- What is printed of a record, by the cells of the table as the records before it left them.
-use Prim.Native.Nat.{ℕ, zero, suc}
+use Prim.Native.Nat.{ℕ}
 use mathlib.Core.Bool.{cond}
 use mathlib.Core.List.{List, [], _∷_}
-use mathlib.Core.Option.{Option, none, some}
-use lib.Dec.{eqb}
 use lib.Ieee.{binary32, toBits}
 use lib.IntN.{ℤ, pos}
-use Rattle.protocol.specs.Form.{mostDatasets}
 use Rattle.rules.specs.declared.Effect.{Effect}
 use Rattle.rules.specs.declared.Effect.the-variants as Effect'
 use Rattle.rules.specs.Answer as Answer
 use Rattle.rules.specs.Answer.{Answer}
 use Rattle.rules.specs.Dataset.{Dataset, Number, whole, float}
+use Rattle.rules.specs.Datasets.{allDatasets}
 use Rattle.rules.specs.Offer.{Entry, offerByCells, cellsAfter, datasetByCells}
 use Rattle.log.specs.Record.{entryOf, malformed}
 
@@ -21,35 +19,25 @@ pub data Line : Type 0 where
   -- an accepted 45: port, mode, state, experiment number, datasets (floats as their 32 bits)
   values : ℕ → ℕ → ℕ → ℕ → List ℤ → Line
 
--- ---- the datasets of a value, as they are handed out one after another
+-- ---- the datasets of a value
 
 -- a float as its 32 bits
 abbrev pub printedNumber : Number → ℤ
 printedNumber (whole n) = n
 printedNumber (float x) = pos (toBits binary32 x)
 
-abbrev pub withNumber : ℤ → Option (List ℤ) → Option (List ℤ)
-withNumber n none = none
-withNumber n (some ns) = some (n ∷ ns)
+abbrev pub printedNumbers : List Dataset → List ℤ
+printedNumbers [] = []
+printedNumbers (d ∷ ds) = printedNumber (d .value) ∷ printedNumbers ds
 
--- 17 ends them; none where one is refused before
-abbrev pub followedBy : Answer Dataset → Option (List ℤ) → Option (List ℤ)
-followedBy (Answer.refused n place) rest = cond (eqb n 17) (some []) none
-followedBy (Answer.accepted d) rest = withNumber (printedNumber (d .value)) rest
-
--- at most so many, from a number on
-abbrev pub numbersFrom : ℕ → (ℕ → Answer Dataset) → ℕ → Option (List ℤ)
-numbersFrom zero dataset n = some []
-numbersFrom (suc most) dataset n = followedBy (dataset n) (numbersFrom most dataset (suc n))
-
--- 18: a dataset is an infinity or a NaN
-abbrev pub withNumbers : Answer Dataset → Option (List ℤ) → Line
-withNumbers a none = refused 18
-withNumbers (Answer.refused n place) (some ns) = refused n
-withNumbers (Answer.accepted d) (some ns) = values (d .port) (d .mode) (d .state) (d .experiment) ns
+-- 18, where one of them is an infinity or a NaN, is that of the line
+abbrev pub withDatasets : Answer Dataset → Answer (List Dataset) → Line
+withDatasets a (Answer.refused n place) = refused n
+withDatasets (Answer.refused n place) (Answer.accepted ds) = refused n
+withDatasets (Answer.accepted d) (Answer.accepted ds) = values (d .port) (d .mode) (d .state) (d .experiment) (printedNumbers ds)
 
 unfoldable pub valueLine : (ℕ → Answer Dataset) → Line
-valueLine dataset = withNumbers (dataset 0) (numbersFrom mostDatasets dataset 0)
+valueLine dataset = withDatasets (dataset 0) (allDatasets dataset)
 
 -- ---- the line of a record
 

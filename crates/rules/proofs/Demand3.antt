@@ -14,7 +14,9 @@ use Rattle.rules.specs.Facts.{View, Ports}
 use Rattle.rules.specs.History.{History, sinceAttached, viewOfHistory, presentBelow, fullHistory, portsOfHistory}
 use Rattle.rules.specs.Table.{Table, viewOfTable, modesOfTable, portsOfTable, fullTable, apply}
 use Rattle.rules.specs.Cells.{cellsOf, tableAt, emptyCells}
-use Rattle.rules.specs.Offer.{Entry, judgeEntry, datasetMessage, offerByCells, appliedTo, cellsAfter, datasetByCells, extendHistory, acceptedHistory}
+use Rattle.rules.specs.Datasets.{allDatasets}
+use Rattle.rules.specs.Present.{presentPorts}
+use Rattle.rules.specs.Offer.{Entry, judgeEntry, datasetMessage, offerByCells, appliedTo, cellsAfter, datasetByCells, datasetByPast, viewOfCells, viewOfPast, extendHistory, acceptedHistory}
 use Rattle.rules.specs.Demand3.{Agree, AgreeThrough, EntryFits, EntriesFit, Demand3}
 use Rattle.rules.proofs.Lookup.{mapFacts}
 use Rattle.rules.proofs.Pairs.{pairs-none}
@@ -59,10 +61,18 @@ agrees : (cells : List ℕ) (past : List Entry) → Holds cells (acceptedHistory
 agrees cells past k =
     let t : Table = k .table in
     let h : History = acceptedHistory past in
+    let seen : (p : ℕ) → viewOfCells cells p ≡ viewOfPast past p =
+    λ p. ap (λ (c : List ℕ). viewOfTable (tableAt c) p) (k .cells-are) ∙ ap (λ (u : Table). viewOfTable u p) (back t (k .good)) ∙ same-view t (k .good) h (k .follows) p
+    in
+    let handed : (way : Way) (bytes : List ℕ) (n : ℕ) → datasetByCells cells way bytes n ≡ datasetByPast past way bytes n =
+    λ way bytes n. ap (λ (c : List ℕ). datasetByCells c way bytes n) (k .cells-are) ∙ same-dataset t h (k .good) (k .follows) way bytes n
+    in
     record {
-      ports = λ p. ap (λ (c : List ℕ). viewOfTable (tableAt c) p) (k .cells-are) ∙ ap (λ (u : Table). viewOfTable u p) (back t (k .good)) ∙ same-view t (k .good) h (k .follows) p;
+      ports = seen;
       modes = λ p. ap (λ (c : List ℕ). modesOfTable (tableAt c) p) (k .cells-are) ∙ ap (λ (u : Table). modesOfTable u p) (back t (k .good)) ∙ same-mode t (k .good) h (k .follows) p;
-      datasets = λ way bytes n. ap (λ (c : List ℕ). datasetByCells c way bytes n) (k .cells-are) ∙ same-dataset t h (k .good) (k .follows) way bytes n;
+      datasets = handed;
+      values = λ way bytes. λ i. allDatasets (λ n. handed way bytes n i);
+      present = λ i. presentPorts (λ p. seen p i);
     }
 
 answers : (cells : List ℕ) (h : History) → Holds cells h → (e : Entry) → offerByCells cells e ≡ judgeEntry (portsOfHistory h) e

@@ -10,13 +10,16 @@ use Rattle.protocol.specs.Number.{Bytes}
 use Rattle.protocol.specs.declared.Way.{Way}
 use Rattle.rules.specs.Layout.{experimentCount}
 use Rattle.rules.specs.Cells.{emptyCells}
-use Rattle.rules.specs.Offer.{Entry, offerByCells, cellsAfter, datasetByCells, viewOfCells, modesOfCells, offerByPast, datasetByPast, viewOfPast, modesOfPast}
+use Rattle.rules.specs.Present.{presentPorts}
+use Rattle.rules.specs.Offer.{Entry, offerByCells, cellsAfter, datasetByCells, valuesByCells, viewOfCells, modesOfCells, offerByPast, datasetByPast, valuesByPast, viewOfPast, modesOfPast}
 
--- now: what is known of every port, and every dataset of every message that is tried
+-- now: what is known of every port, every dataset of every message that is tried and all of them at once, the ports present
 pub record Agree (cells : List ℕ) (past : List Entry) : Type 0 where
   pub ports : (port : ℕ) → viewOfCells cells port ≡ viewOfPast past port
   pub modes : (port : ℕ) → modesOfCells cells port ≡ modesOfPast past port
   pub datasets : (way : Way) (bytes : List ℕ) (number : ℕ) → datasetByCells cells way bytes number ≡ datasetByPast past way bytes number
+  pub values : (way : Way) (bytes : List ℕ) → valuesByCells cells way bytes ≡ valuesByPast past way bytes
+  pub present : presentPorts (viewOfCells cells) ≡ presentPorts (viewOfPast past)
 
 -- through a list from its start: agreement now, then on the next answer, then on the rest
 abbrev pub AgreeThrough : List ℕ → List Entry → List Entry → Type 0

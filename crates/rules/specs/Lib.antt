@@ -1,10 +1,12 @@
 pub mod Layout
 pub mod Answer
 pub mod Facts
+pub mod Present
 pub mod Effect
 pub mod ValueLookup
 pub mod Judge
 pub mod Dataset
+pub mod Datasets
 pub mod Latest
 pub mod History
 pub mod Learn

@@ -13,6 +13,7 @@ use Rattle.rules.specs.Effect.{Effect, effectOf}
 use Rattle.rules.specs.Facts.{View, Modes, Ports}
 use Rattle.rules.specs.Judge.{judge}
 use Rattle.rules.specs.Dataset.{Dataset, datasetAnswer}
+use Rattle.rules.specs.Datasets.{allDatasets}
 use Rattle.rules.specs.History.{History, viewOfHistory, modesOfHistory, portsOfHistory}
 use Rattle.rules.specs.Table.{viewOfTable, modesOfTable, portsOfTable, apply}
 use Rattle.rules.specs.Cells.{cellsOf, tableAt, sound}
@@ -61,6 +62,10 @@ cellsAfter cells e = appliedTo cells (offerByCells cells e)
 unfoldable pub datasetByCells : List ℕ → Way → List ℕ → ℕ → Answer Dataset
 datasetByCells cells way bytes number = cond (sound cells) (datasetMessage (portsOfCells cells) way bytes number) (refused 9 0)
 
+-- all datasets of a message
+abbrev pub valuesByCells : List ℕ → Way → List ℕ → Answer (List Dataset)
+valuesByCells cells way bytes = allDatasets (datasetByCells cells way bytes)
+
 abbrev pub viewOfCells : List ℕ → View
 viewOfCells cells = viewOfTable (tableAt cells)
 
@@ -83,6 +88,9 @@ offerByPast past e = judgeEntry (portsOfHistory (acceptedHistory past)) e
 
 abbrev pub datasetByPast : List Entry → Way → List ℕ → ℕ → Answer Dataset
 datasetByPast past way bytes number = datasetMessage (portsOfHistory (acceptedHistory past)) way bytes number
+
+abbrev pub valuesByPast : List Entry → Way → List ℕ → Answer (List Dataset)
+valuesByPast past way bytes = allDatasets (datasetByPast past way bytes)
 
 abbrev pub viewOfPast : List Entry → View
 viewOfPast past = viewOfHistory (acceptedHistory past)
