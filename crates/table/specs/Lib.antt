@@ -1,5 +1,4 @@
 pub mod BlockAnswer
 pub mod Judged
 pub mod LogLine
-pub mod Lookup
 pub mod OfferAnswer

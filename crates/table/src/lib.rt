@@ -9,22 +9,28 @@ mod step;
 
 use crate::block::Block;
 use crate::block::block_sound;
-use crate::datasets::dataset_sound;
+use crate::datasets::value_sound;
 use crate::offering::Outcome;
 use crate::offering::offer_sound;
+use codec::tail;
 use protocol::Way;
 use rules::layout::TABLE_SIZE;
 use soundness::is_sound;
 use stores::clear;
 use values::datasets::Dataset;
+use values::datasets::ValueMessage;
+use values::datasets::handed_out;
 ghost use mathlib.Core.Path.{_≡_};
-ghost use lib.ListN.{length};
+ghost use mathlib.Core.Bool.{true};
+ghost use Prim.Native.Nat.{ℕ};
+ghost use lib.ListN.{drop, length};
 ghost use Rattle.rules.specs.Answer.{outcome};
 ghost use Rattle.rules.specs.Offer.{cellsAfter, datasetByCells, offerByCells};
 ghost use Rattle.stores.specs.Stores.{emptied};
 ghost use Rattle.table.specs.BlockAnswer.{blockAnswer, blockCells, blockFits, blockText, runOf};
 ghost use Rattle.table.specs.BlockAnswer as BlockAnswer;
 ghost use Rattle.values.specs.DatasetAnswer as DatasetAnswer;
+ghost use Rattle.values.specs.ValueMessage.{datasetBy, valueFits};
 ghost use Rattle.table.specs.OfferAnswer.{emptyAnswer};
 ghost use Rattle.table.specs.OfferAnswer as OfferAnswer;
 
@@ -55,17 +61,25 @@ pub fn offer(table: &mut [u32], message: &[u8], way: Way, experiment: u16) -> Ou
     }
 }
 
+// What the datasets of a message are read by, as the table stands: those of its bytes from the fourth
+// on.
+pub fn value(table: &[u32], message: &[u8], way: Way) -> ValueMessage
+    ensures { λ r. ⌜ ((number : ℕ) → datasetBy r (drop 4 (now (message .entry))) number ≡ datasetByCells (now (table .entry)) way (now (message .entry)) number) × (valueFits r ≡ true) ⌝ }
+{
+    if is_sound(table) {
+        return value_sound(table, message, way);
+    }
+    ValueMessage::Refused {
+        number: 9,
+        place: 0,
+    }
+}
+
 // Hands out one dataset of a message, as the table stands.
 pub fn dataset(table: &[u32], message: &[u8], way: Way, number: usize) -> Dataset
     ensures { λ r. ⌜ DatasetAnswer.answerOf r ≡ datasetByCells (now (table .entry)) way (now (message .entry)) number ⌝ }
 {
-    if is_sound(table) {
-        return dataset_sound(table, message, way, number);
-    }
-    Dataset::Refused {
-        number: 9,
-        place: 0,
-    }
+    handed_out(value(table, message, way), tail(message, 4), number)
 }
 
 // Works through a block of a log: as many whole records as there is room for, each a line of text in

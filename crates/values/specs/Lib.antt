@@ -1,1 +1,2 @@
 pub mod DatasetAnswer
+pub mod ValueMessage

@@ -1,22 +1,26 @@
-use mathlib.Core.Path.{sym, _∙_}
+use Prim.Native.Nat.{ℕ}
+use mathlib.Core.Path.{_∙_, ap}
+use mathlib.Core.List.{List}
+use lib.ListN.{drop}
 use borrow.Author.Needs.{needs}
-use Rattle.table.proofs.Unsound.{dataset-9}
+use Rattle.values.specs.ValueMessage.{datasetBy}
 use Rattle.table.proofs.dataset.Statement.{statement}
 use Rattle.table.proofs.dataset.Tie as tie
 
-is-sound-requires : tie.Need-is-sound-requires
-is-sound-requires c κs = search needs
+value-requires : tie.Need-value-requires
+value-requires c κs = search needs
 
-dataset-sound-requires : tie.Need-dataset-sound-requires
-dataset-sound-requires c κs = sym (c .before .is-sound .ensures) ∙ c .if1 .taken
+tail-requires : tie.Need-tail-requires
+tail-requires c κs = search needs
+
+handed-out-requires : tie.Need-handed-out-requires
+handed-out-requires c κs = search needs
 
 returns : tie.Need-returns
-returns c = search needs
-
-returns-2 : tie.Need-returns-2
-returns-2 c =
-    let a = c .before .before .before .before .args in
-    sym (dataset-9 (a .table .now) (sym (c .before .is-sound .ensures) ∙ c .if1 .left) (a .way) (a .message .now) (a .number))
+returns c =
+    let a = c .before .before .before .before .before .args in
+    let v = c .before .before .value in
+    c .handed-out .ensures ∙ _∙_ {b = datasetBy (v .result) (drop 4 (a .message .now)) (a .number)} (ap (λ (s : List ℕ). datasetBy (v .result) s (a .number)) (c .before .tail .ensures)) (v .ensures .0 (a .number))
 
 pub dataset-spec : {M : Type 1} → statement M
-dataset-spec = tie.close (tie.spec is-sound-requires dataset-sound-requires returns returns-2)
+dataset-spec = tie.close (tie.spec value-requires tail-requires handed-out-requires returns)
