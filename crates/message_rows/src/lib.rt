@@ -7,7 +7,7 @@ ghost use Rattle.protocol.specs.Answer.{formOf, valuesOf};
 ghost use Rattle.message_rows.specs.Row.{acceptedRow, numberOf, row};
 
 // How many numbers a row has.
-pub const ROW_SIZE: usize = 20;
+pub const ROW_SIZE: usize = 16;
 
 // A signed number in two's complement of 64 bits.
 pub fn signed(v: i32) -> u64
@@ -36,8 +36,6 @@ fn row(form: u64, count: u64, v: [u64; 7]) -> [u64; ROW_SIZE]
     ensures { λ r. ⌜ r ≡ row form count v ⌝ }
 {
     [
-        0,
-        0,
         form,
         0,
         0,
@@ -49,8 +47,6 @@ fn row(form: u64, count: u64, v: [u64; 7]) -> [u64; ROW_SIZE]
         v[4],
         v[5],
         v[6],
-        0,
-        0,
         0,
         0,
         0,
@@ -226,8 +222,6 @@ pub fn message_row(m: Message) -> [u64; ROW_SIZE]
             ],
         ),
         Message::PortCombinations { port, combinations } => [
-            0,
-            0,
             23,
             0,
             0,
@@ -243,8 +237,6 @@ pub fn message_row(m: Message) -> [u64; ROW_SIZE]
             combinations.entry5 as u64,
             combinations.entry6 as u64,
             combinations.entry7 as u64,
-            0,
-            0,
             0,
         ],
         Message::ModeText {
