@@ -5,4 +5,4 @@ use Rattle.table_cells.specs.Examples.{DatasetRows}
 
 pub dataset-rows : DatasetRows
 unfolding toBits
-dataset-rows = (refl, refl, refl)
+dataset-rows = (refl, refl)

@@ -7,8 +7,8 @@ use lib.ListN.{length, getD, set, drop}
 use mathlib.Core.Path.{_≡_, refl, sym, _∙_, ap}
 use borrow.Author.Needs.{needs}
 use lib.Seq.{paste, paste-suc, length-paste, take-length}
-use Rattle.capi.proofs.fill.put.Statement.{statement}
-use Rattle.capi.proofs.fill.put.Tie as tie
+use Rattle.answers.proofs.put.Statement.{statement}
+use Rattle.answers.proofs.put.Tie as tie
 
 -- so many of the row are put
 abbrev Put : List ℕ → List ℕ → ℕ → List ℕ → Type 0

@@ -4,14 +4,17 @@ use lib.Dec.{ltb}
 use lib.ListN.{length}
 use borrow.Author.Tests.{lt-ltb, le-ltb}
 use borrow.Author.Needs.{needs}
-use Rattle.capi.proofs.fill.fill.Statement.{statement}
-use Rattle.capi.proofs.fill.fill.Tie as tie
+use Rattle.answers.proofs.fill.Statement.{statement}
+use Rattle.answers.proofs.fill.Tie as tie
+
+refusal-requires : tie.Need-refusal-requires
+refusal-requires c κs = search needs
 
 returns : tie.Need-returns
 returns c =
-    let a = c .before .before .before .args in
-    let few : ltb (length (a .cells .now)) (length (a .row .now)) ≡ true = lt-ltb (length (a .cells .now)) (length (a .row .now)) (c .if1 .taken) in
-    (rw few, rw few)
+    let a = c .before .before .before .before .args in
+    let few : ltb (length (a .cells .now)) (length (a .row .now)) ≡ true = lt-ltb (length (a .cells .now)) (length (a .row .now)) (c .before .if1 .taken) in
+    (rw few (c .refusal .ensures), rw few)
 
 put-requires : tie.Need-put-requires
 put-requires c κs = search needs
@@ -26,4 +29,4 @@ returns-2 c =
     (rw enough, rw enough (c .before .before .put .ensures))
 
 pub fill-spec : {M : Type 1} → statement M
-fill-spec = tie.close (tie.spec returns put-requires same-length returns-2)
+fill-spec = tie.close (tie.spec refusal-requires returns put-requires same-length returns-2)
