@@ -1,2 +1,3 @@
 pub mod FormatAnswer
 pub mod PortAnswer
+pub mod PortsAnswer

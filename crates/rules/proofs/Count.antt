@@ -22,7 +22,7 @@ used [] = 0
 used (none ∷ t) = used t
 used (some r ∷ t) = suc (used t)
 
-used-le : (t : Table) → used t ≤ length t
+pub used-le : (t : Table) → used t ≤ length t
 used-le [] = omega arith
 used-le (none ∷ t) = omega (arith, used-le t)
 used-le (some r ∷ t) = omega (arith, used-le t)
@@ -77,9 +77,13 @@ known-some : (x : Option Facts) → known x ≡ true → (f : Facts) × (x ≡ s
 known-some none e = let z : _≡_ {A = ℕ} 0 1 = cc in absurd (omega arith)
 known-some (some f) e = (f, refl)
 
+-- as many ports are present as places are in use
+pub present-used : (t : Table) → Sound t → presentBelow portCount (viewOfTable t) ≡ used t
+present-used t s = counted t (s .loose .distinct) (λ p e. let k = known-some (viewOfTable t p) e in s .loose .fit p (k .0) (k .1) .small)
+
 pub same-full : (t : Table) → Sound t → fullTable t ≡ leb places (presentBelow portCount (viewOfTable t))
 same-full t s =
-    let total : presentBelow portCount (viewOfTable t) ≡ used t = counted t (s .loose .distinct) (λ p e. let k = known-some (viewOfTable t p) e in s .loose .fit p (k .0) (k .1) .small) in
+    let total : presentBelow portCount (viewOfTable t) ≡ used t = present-used t s in
     ⊎-elim
     (λ (e : fullTable t ≡ true). e ∙ sym (ap (leb places) total ∙ le-leb places (used t) (omega (arith, full-used t e, s .loose .size))))
     (λ (e : fullTable t ≡ false). e ∙ sym (ap (leb places) total ∙ lt-leb places (used t) (omega (arith, room-used t e, s .loose .size))))
