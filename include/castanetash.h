@@ -453,7 +453,8 @@ enum castanetash_dataset_kind {
 };
 
 /* Reads all datasets of a 45, 1 to 16. Accepted: fills 6 cells of rows for each, in their order, and returns how many
- * datasets they are.
+ * datasets they are. The message is judged as castanetash_offer would, and changes nothing. A 45 changes no table, so
+ * it need not be offered: read a message's values first, and offer it if that is refused as 17.
  *
  * Refused: 9; 1 to 7 as in reading; 10 to 16 as in castanetash_offer; 17 if the message is accepted, but is no 45; 18
  * if any dataset is an infinity or a NaN; 255 if rows has fewer cells than 6 times the datasets. */
