@@ -767,7 +767,7 @@ fn functions_for_rust_call_the_library() {
     assert_eq!(totals, [40, 3]);
     assert_eq!(
         castanetash::read_block(&mut table, &mut totals, &log, &mut text),
-        Ok(22)
+        Ok(20)
     );
     assert_eq!(&text[..21], b"41 0 9 3 2 301 7 -2\n-");
     assert_eq!(totals, [41, 3]);
