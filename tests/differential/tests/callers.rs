@@ -1,8 +1,8 @@
 //! The library as its users have it: the header, the declarations for Rust, the examples and README's commands.
 //!
-//! The examples are built as C99, C++11 and Rust under the strictest warnings, run, and held to what they have to print;
-//! README's commands are run as printed. The names of the header are held to the second program, and those for Rust to
-//! the header's.
+//! The examples are built as C99, C++11 and Rust under the strictest warnings, run, and held to what they have to
+//! print; README's commands are run as printed. The names of the header are held to the second program, and those for
+//! Rust to the header's.
 
 #[path = "../../../include/castanetash.rs"]
 mod castanetash;
@@ -15,7 +15,8 @@ use std::process::{Command, Output};
 
 use castanetash::Refused;
 use differential::{printed, root, wanted};
-use yardstick::{decode, log_record, Form, Refusal, State, Table, Way, LOG_RECORD, PLACES, TABLE_CELLS};
+use yardstick::{decode, log_record, Form, Port, Refusal, Setup, State, Table, Way, Wiring};
+use yardstick::{LOG_RECORD, PLACES, TABLE_CELLS};
 
 /// The folder of the product's library.
 const LIBRARY: &str = env!("CASTANETASH_LIB_FOLDER");
@@ -114,8 +115,8 @@ fn examples_print_what_they_should() {
     }
 }
 
-/// The example that reads logs prints what the log reader and the second program print: of the bench's log, of one without
-/// records, of one cut in its last record, of one that is no record, and of one of many blocks.
+/// The example that reads logs prints what the log reader and the second program print: of the bench's log, of one
+/// without records, of one cut in its last record, of one that is no record, and of one of many blocks.
 #[test]
 fn read_log_prints_what_the_log_reader_prints() {
     let bench = fs::read(root().join("examples/bench.log")).expect("the bench's log");
@@ -325,8 +326,8 @@ fn rust_parameter(parameter: &str) -> String {
     }
 }
 
-/// A message of each form, and its values by their names. No two values of a message are equal, so that no two names can
-/// stand for each other.
+/// A message of each form, and its values by their names. No two values of a message are equal, so that no two names
+/// can stand for each other.
 type Sample = (Form, Way, &'static [u8], &'static [(&'static str, i64)]);
 
 const SAMPLES: [Sample; Form::COUNT] = [
@@ -696,6 +697,14 @@ fn sizes_are_those_of_the_second_program() {
         let places: Vec<u64> = enum_of(name).into_iter().map(|(_, place, _)| place).collect();
         assert!(places.into_iter().eq(0..numbers[cells]), "{cells}");
     }
+    let longest = |length: u64| {
+        let mut message = vec![0; length as usize];
+        message[..4].copy_from_slice(&[length as u8, 0, 0x45, 9]);
+        decode(Way::Up, &message).is_ok()
+    };
+    assert!(longest(numbers["LONGEST"]) && !longest(numbers["LONGEST"] + 1));
+    let most = |datasets: u64| decode(Way::Up, &[10, 0, 0x44, 9, 3, 0x80, datasets as u8, 1, 5, 4]).is_ok();
+    assert!(most(numbers["MOST_DATASETS"]) && !most(numbers["MOST_DATASETS"] + 1));
 }
 
 /// Each function for Rust hands its arguments on, and gives the library's answer.
@@ -717,6 +726,7 @@ fn functions_for_rust_call_the_library() {
     let mut row = [7; 17];
     assert_eq!(castanetash::read(asked, 0, &mut row), Ok(16));
     assert_eq!(row, [21, 0, 0, 4, 9, 3, 5, 1, 0, 0, 0, 0, 0, 0, 0, 0, 7]);
+    assert_eq!(row[castanetash::row::COUNT], 4);
     assert_eq!(castanetash::read(asked, 1, &mut row), refused(5, 2));
     let mut out = [7; 11];
     assert_eq!(castanetash::write(&row, 0, &[], &mut out), Ok(10));
@@ -779,4 +789,125 @@ fn functions_for_rust_call_the_library() {
         castanetash::read_block(&mut table, &mut totals[1..], rest, &mut text),
         refused(255, 0)
     );
+}
+
+/// What the library answers of ports stands where the names say, by the second program's own answers: of a virtual port
+/// that was answered otherwise, of its members, one of them asked and not answered, of a port with nothing, and of an
+/// absent one.
+#[test]
+fn cells_of_a_port_are_named_for_what_they_hold() {
+    let entries: [(Way, &[u8], u16); 6] = [
+        (
+            Way::Up,
+            b"\x0F\x00\x04\x05\x01\x26\x00\x00\x00\x00\x10\x00\x00\x00\x10",
+            0,
+        ),
+        (
+            Way::Up,
+            b"\x0F\x00\x04\x06\x01\x27\x00\x00\x00\x00\x10\x00\x00\x00\x10",
+            0,
+        ),
+        (Way::Up, b"\x09\x00\x04\x09\x02\x28\x00\x05\x06", 0),
+        (Way::Down, b"\x0A\x00\x41\x05\x02\x07\x00\x00\x00\x00", 301),
+        (Way::Down, b"\x0A\x00\x41\x09\x03\x0A\x00\x00\x00\x01", 302),
+        (Way::Up, b"\x0A\x00\x47\x09\x04\x0B\x00\x00\x00\x00", 0),
+    ];
+    let attached = b"\x0F\x00\x04\x07\x01\x29\x00\x00\x00\x00\x10\x00\x00\x00\x10";
+    let mut second = Table::default();
+    for (way, message, experiment) in entries.into_iter().chain([(Way::Up, &attached[..], 0)]) {
+        assert_eq!(second.offer(way, message, experiment), Ok(()));
+    }
+    let table = second.to_cells();
+    for port in [5, 6, 7, 8, 9] {
+        let mut row = [70; castanetash::PORT_CELLS];
+        assert_eq!(castanetash::port(&table, port, &mut row), Ok(castanetash::PORT_CELLS));
+        let wanted = named_cells(second.port(port));
+        let cells = wanted.map(|(name, place, _)| (name, place, row[place]));
+        assert_eq!(cells, wanted, "port {port}");
+    }
+}
+
+/// The cells of a port: their names, their places by these names, and what has to stand there.
+fn named_cells(port: Option<Port>) -> [(&'static str, usize, u64); castanetash::PORT_CELLS] {
+    use castanetash::{port_cell, state, wiring};
+    let (kind, partner, second) = match port.map(|it| it.wiring) {
+        None => (wiring::ABSENT, 0, 0),
+        Some(Wiring::Unjoined) => (wiring::UNJOINED, 0, 0),
+        Some(Wiring::Joined { virtual_port }) => (wiring::JOINED, virtual_port, 0),
+        Some(Wiring::Virtual { port_a, port_b }) => (wiring::VIRTUAL, port_a, port_b),
+    };
+    let state = match port.map(|it| it.state) {
+        None | Some(State::NothingAsked) => state::NOTHING_ASKED,
+        Some(State::Unanswered) => state::UNANSWERED,
+        Some(State::AsAsked) => state::AS_ASKED,
+        Some(State::Otherwise) => state::OTHERWISE,
+    };
+    let setup = |setup: Option<Setup>| match setup {
+        None => [0; 4],
+        Some(setup) => [1, setup.mode.into(), setup.delta.into(), setup.notify.into()],
+    };
+    let [asked, asked_mode, asked_delta, asked_notify] = setup(port.and_then(|it| it.asked));
+    let [answered, answered_mode, answered_delta, answered_notify] = setup(port.and_then(|it| it.answered));
+    [
+        ("wiring", port_cell::WIRING, kind),
+        ("device", port_cell::DEVICE, port.map_or(0, |it| it.device.into())),
+        ("partner", port_cell::PARTNER, partner.into()),
+        ("second", port_cell::SECOND, second.into()),
+        ("state", port_cell::STATE, state),
+        ("asked", port_cell::ASKED, asked),
+        ("asked mode", port_cell::ASKED_MODE, asked_mode),
+        ("asked delta", port_cell::ASKED_DELTA, asked_delta),
+        ("asked notify", port_cell::ASKED_NOTIFY, asked_notify),
+        ("answered", port_cell::ANSWERED, answered),
+        ("answered mode", port_cell::ANSWERED_MODE, answered_mode),
+        ("answered delta", port_cell::ANSWERED_DELTA, answered_delta),
+        ("answered notify", port_cell::ANSWERED_NOTIFY, answered_notify),
+        (
+            "experiment",
+            port_cell::EXPERIMENT,
+            port.map_or(0, |it| it.experiment.into()),
+        ),
+    ]
+}
+
+/// The cells of a format, and the kinds of formats and datasets, stand for what their names say.
+#[test]
+fn cells_of_a_format_are_named_for_what_they_hold() {
+    use castanetash::{dataset_cell, dataset_kind, format_cell, format_kind};
+    let attached = b"\x0F\x00\x04\x09\x01\x26\x00\x00\x00\x00\x10\x00\x00\x00\x10";
+    let answered = b"\x0A\x00\x47\x09\x03\x05\x00\x00\x00\x01";
+    for (kind, width, dataset) in [
+        (format_kind::INT8, 1, dataset_kind::WHOLE),
+        (format_kind::INT16, 2, dataset_kind::WHOLE),
+        (format_kind::INT32, 4, dataset_kind::WHOLE),
+        (format_kind::FLOAT, 4, dataset_kind::FLOAT),
+    ] {
+        let format = [10, 0, 0x44, 9, 3, 0x80, 5, kind as u8, 7, 6];
+        let mut second = Table::default();
+        for message in [&attached[..], &answered[..], &format] {
+            assert_eq!(second.offer(Way::Up, message, 0), Ok(()));
+        }
+        let table = second.to_cells();
+        let mut row = [70; castanetash::FORMAT_CELLS];
+        assert_eq!(
+            castanetash::format(&table, 9, 3, &mut row),
+            Ok(castanetash::FORMAT_CELLS)
+        );
+        assert_eq!(row[format_cell::KNOWN], 1);
+        assert_eq!(row[format_cell::DATASETS], 5);
+        assert_eq!(row[format_cell::KIND], kind);
+        assert_eq!(row[format_cell::FIGURES], 7);
+        assert_eq!(row[format_cell::DECIMALS], 6);
+
+        // Five datasets, each of them a 1 in its last byte.
+        let mut value = vec![4 + 5 * width, 0, 0x45, 9];
+        for _ in 0..5 {
+            value.resize(value.len() + usize::from(width) - 1, 0);
+            value.push(1);
+        }
+        let mut row = [70; castanetash::DATASET_CELLS];
+        assert_eq!(castanetash::dataset(&table, &value, 1, 4, &mut row), Ok(row.len()));
+        assert_eq!(row[dataset_cell::KIND], dataset);
+        assert_eq!(row[dataset_cell::VALUE], 1 << (8 * (width - 1)));
+    }
 }
