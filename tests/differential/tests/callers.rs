@@ -116,13 +116,15 @@ fn examples_print_what_they_should() {
 }
 
 /// The example that reads logs prints what the log reader and the second program print: of the bench's log, of one
-/// without records, of one cut in its last record, of one that is no record, and of one of many blocks.
+/// without records, of one cut in its last record, of one that is no record, of one of many blocks, and of one whose
+/// block has more text than there is room for.
 #[test]
 fn read_log_prints_what_the_log_reader_prints() {
     let bench = fs::read(root().join("examples/bench.log")).expect("the bench's log");
     let cut = &bench[..bench.len() - 1];
     let long = [bench.repeat(40), vec![0]].concat();
-    let logs: [&[u8]; 5] = [&bench, &[], cut, &bench[..LOG_RECORD - 1], &long];
+    let wide = wide_log();
+    let logs: [&[u8]; 6] = [&bench, &[], cut, &bench[..LOG_RECORD - 1], &long, &wide];
     for language in LANGUAGES {
         let program = build("read_log", language, "logs");
         for (number, log) in logs.into_iter().enumerate() {
@@ -133,6 +135,18 @@ fn read_log_prints_what_the_log_reader_prints() {
             assert!(lines.as_bytes() == printed(log).stdout, "log {number} in {language:?}");
         }
     }
+}
+
+/// A log of long lines: 400 values of sixteen datasets each.
+fn wide_log() -> Vec<u8> {
+    let attached = b"\x0F\x00\x04\x09\x01\x26\x00\x00\x00\x00\x10\x00\x00\x00\x10";
+    let format = b"\x0A\x00\x44\x09\x03\x80\x10\x02\x05\x04";
+    let answered = b"\x0A\x00\x47\x09\x03\x05\x00\x00\x00\x01";
+    let value = [&[68, 0, 0x45, 9][..], &[0x80; 64]].concat();
+    let messages = [&attached[..], format, answered].into_iter().chain([&value[..]; 400]);
+    messages
+        .flat_map(|message| log_record(0, Way::Up, message, 0))
+        .collect()
 }
 
 /// What can't be read is told, and the status says so. There are no totals.
@@ -724,10 +738,11 @@ fn functions_for_rust_call_the_library() {
     ];
 
     let mut row = [7; 17];
-    assert_eq!(castanetash::read(asked, 0, &mut row), Ok(16));
+    assert_eq!(castanetash::read(asked, 0, &mut row), Ok(castanetash::ROW_CELLS));
     assert_eq!(row, [21, 0, 0, 4, 9, 3, 5, 1, 0, 0, 0, 0, 0, 0, 0, 0, 7]);
     assert_eq!(row[castanetash::row::COUNT], 4);
     assert_eq!(castanetash::read(asked, 1, &mut row), refused(5, 2));
+    assert_eq!(castanetash::read(asked, 0, &mut row[..15]), refused(255, 0));
     let mut out = [7; 11];
     assert_eq!(castanetash::write(&row, 0, &[], &mut out), Ok(10));
     assert_eq!(out, *b"\x0A\x00\x41\x09\x03\x05\x00\x00\x00\x01\x07");
