@@ -30,9 +30,10 @@ extern "C" {
  *
  * What a call may change is what it takes without const: it shares no byte with anything else lent to the same call.
  * What is only read may overlap. A longer row, or more room, than a call wants is allowed: the rest is left as it was.
+ * Only a table has to have its exact number of cells.
  *
- * No call keeps a pointer, and nothing is kept between calls, so threads may call at once, as long as none of them is
- * lent what another call may be changing. Two tables never meet.
+ * No call keeps a pointer, and nothing is kept between calls: threads may call at once, each with its own table, and
+ * also with one that none of these calls may change.
  */
 #define CASTANETASH_REFUSAL(answer) ((uint32_t)((answer) >> 32))
 #define CASTANETASH_PLACE(answer) ((uint32_t)((answer) & 0xFFFFFFFFu))
@@ -63,13 +64,13 @@ enum castanetash_refusal {
                                               same; or a port to be disconnected is not virtual */
     CASTANETASH_REFUSED_TABLE_FULL = 13,   /* sixteen ports are present already */
     CASTANETASH_REFUSED_NO_MODE = 14,      /* a value of a port that has no mode yet: no 47 since it was attached */
-    CASTANETASH_REFUSED_NO_FORMAT = 15,    /* a value in a mode that has no format yet: no 44 of type 80 since then */
+    CASTANETASH_REFUSED_NO_FORMAT = 15,    /* a value in a mode that has no format yet: no such 44 since then */
     CASTANETASH_REFUSED_VALUE_SIZE = 16,   /* a value whose bytes are not datasets times width of its format */
     CASTANETASH_REFUSED_NO_DATASET = 17,   /* no dataset of that number; any message but a value has none */
     CASTANETASH_REFUSED_NOT_FINITE = 18,   /* a float dataset is an infinity or a NaN */
     CASTANETASH_REFUSED_LOG_RECORD = 19,   /* a log's record is malformed: only in the text of castanetash_read_block */
-    CASTANETASH_REFUSED_ROW = 255          /* a lent row is too short for the answer; in castanetash_write, it is
-                                              no message's own */
+    CASTANETASH_REFUSED_ROW = 255          /* a lent row is too short for the answer; or castanetash_write is given a
+                                              row that is no message's own */
 };
 
 /* ---- Messages ---- */
@@ -101,11 +102,13 @@ uint64_t castanetash_read(const uint8_t *message, size_t message_len, uint8_t wa
  * Refused, with places in the message to be written:
  *   255 if the row has fewer than 16 cells, or an unknown form;
  *   5 if the form's type doesn't go this way;
- *   7 for its selectors from left to right, and at the last one if they lead to another form than the row's;
+ *   7 for its selectors from left to right, one wider than its byte too; and at the last of them if they lead to
+ *     another form than the row's;
  *   6 if there are too few or too many open bytes, or any for a form without them, or the count of a list (43) is not
  *     1 to 8;
- *   7 for its other fields from left to right, if a number is not in its list or wider than a field with a list;
- *   255 for a number wider than a field without a list, such as a port of 300;
+ *   7 for its other fields from left to right: a number that is not in its list, such as a mode of 16 or 300, a float
+ *     that is not finite, a number too wide for six bytes;
+ *   255 for a number too wide for a field that has no list, such as a port of 300, or a float's cell over 32 bits;
  *   8 if out is shorter than the message. */
 uint64_t castanetash_write(const uint64_t *row, size_t row_len, uint8_t way, const uint8_t *open, size_t open_len,
                            uint8_t *out, size_t out_len);

@@ -156,7 +156,7 @@ pub mod refused {
     pub const TABLE_FULL: u32 = 13;
     /// A value of a port that has no mode yet: no 47 since it was attached.
     pub const NO_MODE: u32 = 14;
-    /// A value in a mode that has no format yet: no 44 of type 80 since then.
+    /// A value in a mode that has no format yet: no such 44 since then.
     pub const NO_FORMAT: u32 = 15;
     /// A value whose bytes are not datasets times width of its format.
     pub const VALUE_SIZE: u32 = 16;
@@ -166,7 +166,7 @@ pub mod refused {
     pub const NOT_FINITE: u32 = 18;
     /// A log's record is malformed: only in the text of `read_block`.
     pub const LOG_RECORD: u32 = 19;
-    /// A lent row is too short for the answer; in `write`, it is no message's own.
+    /// A lent row is too short for the answer; or `write` is given a row that is no message's own.
     pub const ROW: u32 = 255;
 }
 
