@@ -406,8 +406,9 @@ enum castanetash_virtual_connect {
  * virtual port joins two others, and goes when one of them does. When the hub says that it goes (02 up), no port is
  * present any more.
  *
- * A table may be copied and stored. Before anything else each call tests that the cells are a sound table, one that
- * messages can have made; else they are refused as 9. castanetash_empty asks for their number alone.
+ * A table may be copied and stored. Before anything else each call tests that the cells are a sound table: no port
+ * twice, virtual ports and members that fit each other, every number in its list, free places zeros; else 9.
+ * castanetash_empty asks for their number alone.
  */
 #define CASTANETASH_TABLE_CELLS 464
 #define CASTANETASH_MOST_PORTS 16
