@@ -1,147 +1,115 @@
-//! Follows a port from its attachment to its first value, and shows what that value says and which experiment asked for
-//! it.
+//! Follows the messages of a hub in a port table, and prints its values, each with the mode that it was sent in and the
+//! experiment that asked for it. At the end it prints what is known of each port.
+
+#[path = "../include/castanetash.rs"]
+mod castanetash;
 
 use std::process::ExitCode;
 
-#[link(name = "capi", kind = "static")]
-extern "C" {
-    fn castanetash_empty(table: *mut u32, table_len: usize) -> u64;
+use castanetash::{dataset_cell, dataset_kind, format_cell, port_cell, refused, Refused, DOWN, UP};
+use castanetash::{DATASET_CELLS, FORMAT_CELLS, MOST_DATASETS, MOST_PORTS, PORT_CELLS, TABLE_CELLS};
 
-    fn castanetash_offer(
-        table: *mut u32,
-        table_len: usize,
-        message: *const u8,
-        message_len: usize,
-        way: u8,
-        experiment: u16,
-    ) -> u64;
-
-    fn castanetash_dataset(
-        table: *const u32,
-        table_len: usize,
-        message: *const u8,
-        message_len: usize,
-        way: u8,
-        number: usize,
-        cells: *mut u64,
-        cells_len: usize,
-    ) -> usize;
-
-    fn castanetash_port(table: *const u32, table_len: usize, port: u8, cells: *mut u64, cells_len: usize) -> usize;
-
-    fn castanetash_format(
-        table: *const u32,
-        table_len: usize,
-        port: u8,
-        mode: u8,
-        cells: *mut u64,
-        cells_len: usize,
-    ) -> usize;
-}
-
-const DOWN: u8 = 0;
-const UP: u8 = 1;
-
-/// The number of the running experiment.
-const EXPERIMENT: u16 = 7;
+/// Way, experiment number and message.
+const ENTRIES: [(u8, u16, &[u8]); 15] = [
+    // A motor is attached to port 0. Its modes 1, speed, and 2, position, have one number of 32 bits.
+    (UP, 0, b"\x0F\x00\x04\x00\x01\x26\x00\x00\x00\x00\x10\x00\x00\x00\x10"),
+    (UP, 0, b"\x0A\x00\x44\x00\x01\x80\x01\x02\x04\x00"),
+    (UP, 0, b"\x0A\x00\x44\x00\x02\x80\x01\x02\x04\x00"),
+    // A value is refused: the hub has not said yet in which mode it is.
+    (UP, 0, b"\x08\x00\x45\x00\x00\x00\x00\x00"),
+    // Experiment 301 asks for speeds, and the hub answers.
+    (DOWN, 301, b"\x0A\x00\x41\x00\x01\x01\x00\x00\x00\x01"),
+    (UP, 0, b"\x0A\x00\x47\x00\x01\x01\x00\x00\x00\x01"),
+    (UP, 0, b"\x08\x00\x45\x00\x5A\x02\x00\x00"),
+    // Experiment 302 asks for positions. Until the hub answers, it still sends speeds.
+    (DOWN, 302, b"\x0A\x00\x41\x00\x02\x01\x00\x00\x00\x01"),
+    (UP, 0, b"\x08\x00\x45\x00\x56\x02\x00\x00"),
+    (UP, 0, b"\x0A\x00\x47\x00\x02\x01\x00\x00\x00\x01"),
+    (UP, 0, b"\x08\x00\x45\x00\xFD\xFF\xFF\xFF"),
+    // A load cell is attached to port 3. It sends two floats in mode 0, which nobody asked for.
+    (UP, 0, b"\x0F\x00\x04\x03\x01\x15\x00\x00\x00\x00\x10\x00\x00\x00\x10"),
+    (UP, 0, b"\x0A\x00\x44\x03\x00\x80\x02\x03\x04\x02"),
+    (UP, 0, b"\x0A\x00\x47\x03\x00\x01\x00\x00\x00\x01"),
+    (UP, 0, b"\x0C\x00\x45\x03\x00\x00\xB0\x40\x00\x00\x80\xBE"),
+];
 
 /// A port table for one hub.
-struct Table([u32; 464]);
+struct Table([u32; TABLE_CELLS]);
 
 impl Table {
-    fn empty() -> Table {
-        let mut table = [0; 464];
-        // SAFETY: the pointer comes from an array of the length passed with it, and the callee doesn't keep it.
-        unsafe { castanetash_empty(table.as_mut_ptr(), table.len()) };
-        Table(table)
+    fn empty() -> Result<Table, Refused> {
+        let mut table = [0; TABLE_CELLS];
+        castanetash::empty(&mut table)?;
+        Ok(Table(table))
     }
 
-    /// Changes the table as a message says, or gives the refusal's number and place.
-    fn offer(&mut self, way: u8, message: &[u8]) -> Result<(), (u64, u64)> {
-        let Table(table) = self;
-        // SAFETY: each pointer comes from a slice of the length passed with it, and the callee keeps none of them.
-        let answer = unsafe {
-            castanetash_offer(
-                table.as_mut_ptr(),
-                table.len(),
-                message.as_ptr(),
-                message.len(),
-                way,
-                EXPERIMENT,
-            )
-        };
-        match answer >> 32 {
-            0 => Ok(()),
-            number => Err((number, answer & 0xFFFF_FFFF)),
+    /// Prints a value, which changes no table; any other message is offered to the table.
+    fn follow(&mut self, way: u8, experiment: u16, message: &[u8]) -> Result<(), Refused> {
+        let mut rows = [0; MOST_DATASETS * DATASET_CELLS];
+        match castanetash::values(&self.0, message, way, &mut rows) {
+            Ok(datasets) => print_value(&rows[..datasets * DATASET_CELLS]),
+            // Good, but no value.
+            Err(refused) if refused.number == refused::NO_DATASET => {
+                castanetash::offer(&mut self.0, message, way, experiment)?;
+            }
+            Err(refused) => return Err(refused),
         }
+        Ok(())
     }
 
-    /// Refusal number, place, kind of value, value, port, mode, state, experiment number. A whole number is in two's
-    /// complement of 64 bits.
-    fn dataset(&self, way: u8, message: &[u8], number: usize) -> [u64; 8] {
-        let Table(table) = self;
-        let mut cells = [0; 8];
-        // SAFETY: each pointer comes from a slice of the length passed with it, and the callee keeps none of them.
-        unsafe {
-            castanetash_dataset(
-                table.as_ptr(),
-                table.len(),
-                message.as_ptr(),
-                message.len(),
-                way,
-                number,
-                cells.as_mut_ptr(),
-                cells.len(),
-            )
-        };
-        cells
-    }
-
-    /// Refusal number, wiring, device, partner, second member, state, the setup asked for, the one answered, and the
-    /// experiment number of the one asked for.
-    fn port(&self, port: u8) -> [u64; 15] {
-        let Table(table) = self;
-        let mut cells = [0; 15];
-        // SAFETY: each pointer comes from a slice of the length passed with it, and the callee keeps none of them.
-        unsafe { castanetash_port(table.as_ptr(), table.len(), port, cells.as_mut_ptr(), cells.len()) };
-        cells
-    }
-
-    /// Refusal number, whether the format is known, datasets, kind, figures, decimals.
-    fn format(&self, port: u8, mode: u8) -> [u64; 6] {
-        let Table(table) = self;
-        let mut cells = [0; 6];
-        // SAFETY: each pointer comes from a slice of the length passed with it, and the callee keeps none of them.
-        unsafe { castanetash_format(table.as_ptr(), table.len(), port, mode, cells.as_mut_ptr(), cells.len()) };
-        cells
+    /// Prints what is known of each port, and of the mode that it is in.
+    fn print_ports(&self) -> Result<(), Refused> {
+        let mut ports = [0; MOST_PORTS];
+        let count = castanetash::ports(&self.0, &mut ports)?;
+        for &port in &ports[..count] {
+            let (mut row, mut format) = ([0; PORT_CELLS], [0; FORMAT_CELLS]);
+            castanetash::port(&self.0, port, &mut row)?;
+            let (device, mode) = (row[port_cell::DEVICE], row[port_cell::ANSWERED_MODE]);
+            castanetash::format(&self.0, port, mode as u8, &mut format)?;
+            let (datasets, kind) = (format[format_cell::DATASETS], format[format_cell::KIND]);
+            println!("port {port}: device {device}, mode {mode}, datasets {datasets}, kind {kind}");
+        }
+        Ok(())
     }
 }
 
-fn follow() -> Result<(), (u64, u64)> {
-    let mut table = Table::empty();
-    // Port 0 is attached.
-    table.offer(UP, b"\x0F\x00\x04\x00\x01\x26\x00\x00\x00\x00\x10\x00\x00\x00\x10")?;
-    // Values in mode 2 have one dataset of 32 bits, a position in degrees.
-    table.offer(UP, b"\x0A\x00\x44\x00\x02\x80\x01\x02\x04\x00")?;
-    // Mode 2 is asked for, and the hub answers.
-    table.offer(DOWN, b"\x0A\x00\x41\x00\x02\x01\x00\x00\x00\x01")?;
-    table.offer(UP, b"\x0A\x00\x47\x00\x02\x01\x00\x00\x00\x01")?;
+/// Prints the datasets of a value.
+fn print_value(rows: &[u64]) {
+    print!(
+        "port {}, mode {}, state {}, experiment {}:",
+        rows[dataset_cell::PORT],
+        rows[dataset_cell::MODE],
+        rows[dataset_cell::STATE],
+        rows[dataset_cell::EXPERIMENT]
+    );
+    for row in rows.chunks_exact(DATASET_CELLS) {
+        match (row[dataset_cell::KIND], row[dataset_cell::VALUE]) {
+            (dataset_kind::FLOAT, value) => print!(" {}", f32::from_bits(value as u32)),
+            (_, value) => print!(" {}", value as i64),
+        }
+    }
+    println!();
+}
 
-    let port = table.port(0);
-    println!("port 0: device {}, state {}", port[2], port[5]);
-    let format = table.format(0, 2);
-    println!("mode 2: datasets {}, kind {}", format[2], format[3]);
-    // The motor is turned back by three degrees.
-    let dataset = table.dataset(UP, b"\x08\x00\x45\x00\xFD\xFF\xFF\xFF", 0);
-    println!("dataset 0: {}, experiment {}", dataset[3] as i64, dataset[7]);
+fn follow_all() -> Result<(), Refused> {
+    let mut table = Table::empty()?;
+    let mut refused = 0;
+    for (way, experiment, message) in ENTRIES {
+        if let Err(refusal) = table.follow(way, experiment, message) {
+            println!("{refusal}");
+            refused += 1;
+        }
+    }
+    table.print_ports()?;
+    println!("refused: {refused}");
     Ok(())
 }
 
 fn main() -> ExitCode {
-    match follow() {
+    match follow_all() {
         Ok(()) => ExitCode::SUCCESS,
-        Err((number, place)) => {
-            println!("refusal {number}, place {place}");
+        Err(refused) => {
+            println!("{refused}");
             ExitCode::FAILURE
         }
     }

@@ -1,40 +1,66 @@
-/* Writes a Port Input Format Setup (Single), 41, shows its bytes and reads it back. */
+/* Writes two messages to the hub, shows their bytes and reads them back. A third one is refused. */
 
 #include <stdio.h>
 
 #include "castanetash.h"
 
-int main(void)
+/* Whether an answer is a refusal, which is told. */
+static int is_refused(uint64_t answer)
 {
-    uint64_t cells[CASTANETASH_CELLS] = {0};
-    uint8_t message[CASTANETASH_LONGEST];
-    const uint8_t no_open_bytes[1] = {0};
-    uint64_t length, i;
+    if (CASTANETASH_REFUSAL(answer) == 0)
+        return 0;
+    printf("refusal %u, place %u\n", (unsigned)CASTANETASH_REFUSAL(answer), (unsigned)CASTANETASH_PLACE(answer));
+    return 1;
+}
 
-    cells[CASTANETASH_FORM] = CASTANETASH_INPUT_FORMAT_SETUP;
-    cells[CASTANETASH_VALUES + 0] = 0; /* port */
-    cells[CASTANETASH_VALUES + 1] = 2; /* mode */
-    cells[CASTANETASH_VALUES + 2] = 1; /* delta */
-    cells[CASTANETASH_VALUES + 3] = 1; /* notify */
-    length = castanetash_write(cells, CASTANETASH_CELLS, CASTANETASH_DOWN, no_open_bytes, 0, message,
-                               sizeof message);
-    if (CASTANETASH_WRITE_REFUSAL(length) != 0) {
-        printf("not written: refusal %u, place %u\n", (unsigned)CASTANETASH_WRITE_REFUSAL(length),
-               (unsigned)CASTANETASH_WRITE_PLACE(length));
-        return 1;
-    }
+/* Writes the message of a row with its open bytes, shows it, and reads it back into the row. Returns whether both were
+ * accepted. */
+static int write_and_read(uint64_t row[CASTANETASH_ROW_CELLS], const char *open, size_t open_len,
+                          uint8_t message[CASTANETASH_LONGEST])
+{
+    uint64_t answer;
+    size_t length, i;
+
+    answer = castanetash_write(row, CASTANETASH_ROW_CELLS, CASTANETASH_DOWN, (const uint8_t *)open, open_len, message,
+                               CASTANETASH_LONGEST);
+    if (is_refused(answer))
+        return 0;
+    length = CASTANETASH_WRITTEN(answer);
     printf("written:");
     for (i = 0; i < length; i++)
         printf(" %02X", message[i]);
     printf("\n");
+    return !is_refused(castanetash_read(message, length, CASTANETASH_DOWN, row, CASTANETASH_ROW_CELLS));
+}
 
-    castanetash_read(message, (size_t)length, CASTANETASH_DOWN, cells, CASTANETASH_CELLS);
-    if (cells[CASTANETASH_REFUSAL] != 0) {
-        printf("not read: refusal %u, place %u\n", (unsigned)cells[CASTANETASH_REFUSAL],
-               (unsigned)cells[CASTANETASH_PLACE]);
+int main(void)
+{
+    uint64_t setup[CASTANETASH_ROW_CELLS] = {0};
+    uint64_t name[CASTANETASH_ROW_CELLS] = {0};
+    uint8_t message[CASTANETASH_LONGEST];
+
+    /* Port Input Format Setup (Single), 41. It has no open bytes. */
+    setup[CASTANETASH_ROW_FORM] = CASTANETASH_FORM_INPUT_FORMAT_SETUP;
+    setup[CASTANETASH_INPUT_FORMAT_SETUP_PORT] = 0;
+    setup[CASTANETASH_INPUT_FORMAT_SETUP_MODE] = 2;
+    setup[CASTANETASH_INPUT_FORMAT_SETUP_DELTA] = 1;
+    setup[CASTANETASH_INPUT_FORMAT_SETUP_NOTIFY] = 1;
+    if (!write_and_read(setup, NULL, 0, message))
         return 1;
-    }
-    printf("read: port %u, mode %u\n", (unsigned)cells[CASTANETASH_VALUES + 0],
-           (unsigned)cells[CASTANETASH_VALUES + 1]);
+    printf("read: port %u, mode %u\n", (unsigned)setup[CASTANETASH_INPUT_FORMAT_SETUP_PORT],
+           (unsigned)setup[CASTANETASH_INPUT_FORMAT_SETUP_MODE]);
+
+    /* Hub Properties, 01: sets the hub's name, which is open bytes. */
+    name[CASTANETASH_ROW_FORM] = CASTANETASH_FORM_PROPERTY_TEXT;
+    name[CASTANETASH_PROPERTY_TEXT_PROPERTY] = 1;
+    name[CASTANETASH_PROPERTY_TEXT_OPERATION] = 1;
+    if (!write_and_read(name, "Bench 7", 7, message))
+        return 1;
+    printf("read: name %.*s\n", (int)name[CASTANETASH_ROW_OPEN_COUNT],
+           (const char *)message + name[CASTANETASH_ROW_OPEN_START]);
+
+    /* No mode is over 15. */
+    setup[CASTANETASH_INPUT_FORMAT_SETUP_MODE] = 300;
+    write_and_read(setup, NULL, 0, message);
     return 0;
 }

@@ -1,86 +1,62 @@
-//! Writes a Port Input Format Setup (Single), 41, shows its bytes and reads it back.
+//! Writes two messages to the hub, shows their bytes and reads them back. A third one is refused.
+
+#[path = "../include/castanetash.rs"]
+mod castanetash;
 
 use std::process::ExitCode;
 
-#[link(name = "capi", kind = "static")]
-extern "C" {
-    fn castanetash_read(message: *const u8, message_len: usize, way: u8, cells: *mut u64, cells_len: usize) -> usize;
+use castanetash::{form, input_format_setup, property_text, row, Refused, DOWN, LONGEST, ROW_CELLS};
 
-    fn castanetash_write(
-        cells: *const u64,
-        cells_len: usize,
-        way: u8,
-        open: *const u8,
-        open_len: usize,
-        out: *mut u8,
-        out_len: usize,
-    ) -> u64;
-}
+type Row = [u64; ROW_CELLS];
 
-/// A message as a row of numbers: the form is in cell 2, the values start at cell 6.
-type Cells = [u64; 20];
-const FORM: usize = 2;
-const VALUES: usize = 6;
-
-const DOWN: u8 = 0;
-const INPUT_FORMAT_SETUP: u64 = 21;
-
-/// The message's length, or the refusal's number and place.
-fn write(cells: &Cells, way: u8, open: &[u8], out: &mut [u8]) -> Result<usize, (u64, u64)> {
-    // SAFETY: each pointer comes from a slice of the length passed with it, and the callee keeps none of them.
-    let answer = unsafe {
-        castanetash_write(
-            cells.as_ptr(),
-            cells.len(),
-            way,
-            open.as_ptr(),
-            open.len(),
-            out.as_mut_ptr(),
-            out.len(),
-        )
-    };
-    match answer >> 32 {
-        0 => Ok(answer as usize),
-        number => Err((number, answer & 0xFFFF_FFFF)),
-    }
-}
-
-/// The cells of an accepted message, or the refusal's number and place.
-fn read(message: &[u8], way: u8) -> Result<Cells, (u64, u64)> {
-    let mut cells = [0; 20];
-    // SAFETY: each pointer comes from a slice of the length passed with it, and the callee keeps none of them.
-    unsafe { castanetash_read(message.as_ptr(), message.len(), way, cells.as_mut_ptr(), cells.len()) };
-    match cells[0] {
-        0 => Ok(cells),
-        number => Err((number, cells[1])),
-    }
-}
-
-fn write_and_read() -> Result<(), (u64, u64)> {
-    let mut cells = [0; 20];
-    cells[FORM] = INPUT_FORMAT_SETUP;
-    let [port, mode, delta, notify] = [0, 2, 1, 1];
-    cells[VALUES..VALUES + 4].copy_from_slice(&[port, mode, delta, notify]);
-
-    let mut out = [0; 127];
-    let length = write(&cells, DOWN, &[], &mut out)?;
-    let message = &out[..length];
+/// Writes the message of a row with its open bytes, shows it, and reads it back into the row. Gives the message.
+fn write_and_read(row: &mut Row, open: &[u8]) -> Result<Vec<u8>, Refused> {
+    let mut message = vec![0; LONGEST];
+    let length = castanetash::write(row, DOWN, open, &mut message)?;
+    message.truncate(length);
     print!("written:");
-    for byte in message {
+    for byte in &message {
         print!(" {byte:02X}");
     }
     println!();
+    castanetash::read(&message, DOWN, row)?;
+    Ok(message)
+}
 
-    let cells = read(message, DOWN)?;
-    println!("read: port {}, mode {}", cells[VALUES], cells[VALUES + 1]);
+fn both() -> Result<(), Refused> {
+    // Port Input Format Setup (Single), 41. It has no open bytes.
+    let mut setup = [0; ROW_CELLS];
+    setup[row::FORM] = form::INPUT_FORMAT_SETUP;
+    setup[input_format_setup::PORT] = 0;
+    setup[input_format_setup::MODE] = 2;
+    setup[input_format_setup::DELTA] = 1;
+    setup[input_format_setup::NOTIFY] = 1;
+    write_and_read(&mut setup, &[])?;
+    let (port, mode) = (setup[input_format_setup::PORT], setup[input_format_setup::MODE]);
+    println!("read: port {port}, mode {mode}");
+
+    // Hub Properties, 01: sets the hub's name, which is open bytes.
+    let mut name = [0; ROW_CELLS];
+    name[row::FORM] = form::PROPERTY_TEXT;
+    name[property_text::PROPERTY] = 1;
+    name[property_text::OPERATION] = 1;
+    let message = write_and_read(&mut name, b"Bench 7")?;
+    let (start, count) = (name[row::OPEN_START] as usize, name[row::OPEN_COUNT] as usize);
+    println!("read: name {}", String::from_utf8_lossy(&message[start..][..count]));
+
+    // No mode is over 15.
+    setup[input_format_setup::MODE] = 300;
+    if let Err(refused) = write_and_read(&mut setup, &[]) {
+        println!("{refused}");
+    }
     Ok(())
 }
 
 fn main() -> ExitCode {
-    match write_and_read() {
+    match both() {
         Ok(()) => ExitCode::SUCCESS,
-        Err((number, place)) => {
-            println!("refusal {number}, place {place}");
+        Err(refused) => {
+            println!("{refused}");
             ExitCode::FAILURE
         }
     }

@@ -1,14 +1,16 @@
-//! Castanetash for Rust: the functions of `libcastanetash.a`, and what they are called with. Take it into a program with
+//! Castanetash for Rust: the functions of `libcastanetash.a`, and what they are called with. Take it into a program by
 //!
 //!     #[path = "include/castanetash.rs"]
 //!     mod castanetash;
 //!
-//! The functions here take slices and answer a `Result`; those of `raw` are the library's own, as `castanetash.h` has them.
-//! Every call ends with an answer, whatever it is lent. A refused call changes nothing.
+//! The functions here take slices and answer a `Result`: how much was written, or the refusal. Those of `raw` are the
+//! library's own. `castanetash.h` says of each call in which order its refusals come, what a table is and how a log is
+//! laid out; the names here are those there. Every call ends with an answer, whatever it is lent, and a refused call
+//! changes nothing.
 
-#![allow(dead_code)]
+#![allow(dead_code, unsafe_code)]
 
-/// The way of a message: down to the hub, or up from it.
+/// The way of a message: down to the hub, or up from it. Any other number is up too.
 pub const DOWN: u8 = 0;
 pub const UP: u8 = 1;
 
@@ -31,12 +33,20 @@ pub const MOST_PORTS: usize = 16;
 pub const RECORD: usize = 136;
 pub const LINE_ROOM: usize = 462;
 
-/// A refusal: its number, and its place in the message.
+/// A refusal: its number, one of `refused`, and its place in the message.
 #[derive(Clone, Copy, Debug, PartialEq, Eq)]
 pub struct Refused {
     pub number: u32,
     pub place: u32,
 }
+
+impl std::fmt::Display for Refused {
+    fn fmt(&self, f: &mut std::fmt::Formatter) -> std::fmt::Result {
+        write!(f, "refusal {}, place {}", self.number, self.place)
+    }
+}
+
+impl std::error::Error for Refused {}
 
 /// An answer of the library: the number of the refusal above its place, or how much was written.
 pub fn answer(number: u64) -> Result<usize, Refused> {
@@ -47,17 +57,618 @@ pub fn answer(number: u64) -> Result<usize, Refused> {
     }
 }
 
+// SAFETY, of every call below: each pointer comes from a slice of the length passed with it, and the library keeps none
+// of them. It writes only to what is borrowed as mutable, which overlaps nothing else, and is defined for all contents.
+
+/// Reads one message into the first 16 cells of a row: 16.
+pub fn read(message: &[u8], way: u8, row: &mut [u64]) -> Result<usize, Refused> {
+    answer(unsafe { raw::castanetash_read(message.as_ptr(), message.len(), way, row.as_mut_ptr(), row.len()) })
+}
+
+/// Writes the message of a row, with its open bytes, to the start of `out`: its length.
+pub fn write(row: &[u64], way: u8, open: &[u8], out: &mut [u8]) -> Result<usize, Refused> {
+    let (row, row_len) = (row.as_ptr(), row.len());
+    let (out, out_len) = (out.as_mut_ptr(), out.len());
+    answer(unsafe { raw::castanetash_write(row, row_len, way, open.as_ptr(), open.len(), out, out_len) })
+}
+
+/// Makes 464 cells an empty table: 0.
+pub fn empty(table: &mut [u32]) -> Result<usize, Refused> {
+    answer(unsafe { raw::castanetash_empty(table.as_mut_ptr(), table.len()) })
+}
+
+/// Offers a message, with the number of its experiment, to a table, which changes as it says: 0.
+pub fn offer(table: &mut [u32], message: &[u8], way: u8, experiment: u16) -> Result<usize, Refused> {
+    let (table, table_len) = (table.as_mut_ptr(), table.len());
+    answer(unsafe { raw::castanetash_offer(table, table_len, message.as_ptr(), message.len(), way, experiment) })
+}
+
+/// Reads one dataset of a value, numbered from 0, into the first 6 cells of a row: 6.
+pub fn dataset(table: &[u32], message: &[u8], way: u8, number: usize, row: &mut [u64]) -> Result<usize, Refused> {
+    let (table, table_len) = (table.as_ptr(), table.len());
+    let (message, message_len) = (message.as_ptr(), message.len());
+    let (row, row_len) = (row.as_mut_ptr(), row.len());
+    answer(unsafe { raw::castanetash_dataset(table, table_len, message, message_len, way, number, row, row_len) })
+}
+
+/// Reads all datasets of a value, 6 cells each: how many datasets.
+pub fn values(table: &[u32], message: &[u8], way: u8, rows: &mut [u64]) -> Result<usize, Refused> {
+    let (table, table_len) = (table.as_ptr(), table.len());
+    let (message, message_len) = (message.as_ptr(), message.len());
+    let (rows, rows_len) = (rows.as_mut_ptr(), rows.len());
+    answer(unsafe { raw::castanetash_values(table, table_len, message, message_len, way, rows, rows_len) })
+}
+
+/// The ports that are present, ascending: how many.
+pub fn ports(table: &[u32], ports: &mut [u8]) -> Result<usize, Refused> {
+    answer(unsafe { raw::castanetash_ports(table.as_ptr(), table.len(), ports.as_mut_ptr(), ports.len()) })
+}
+
+/// What a table knows of a port, in the first 14 cells of a row: 14.
+pub fn port(table: &[u32], port: u8, row: &mut [u64]) -> Result<usize, Refused> {
+    answer(unsafe { raw::castanetash_port(table.as_ptr(), table.len(), port, row.as_mut_ptr(), row.len()) })
+}
+
+/// What a table knows of a port's mode, in the first 5 cells of a row: 5.
+pub fn format(table: &[u32], port: u8, mode: u8, row: &mut [u64]) -> Result<usize, Refused> {
+    let (row, row_len) = (row.as_mut_ptr(), row.len());
+    answer(unsafe { raw::castanetash_format(table.as_ptr(), table.len(), port, mode, row, row_len) })
+}
+
+/// Works through whole records of a log, and puts their lines to `text`: the bytes of text. What was taken of the log
+/// is 136 bytes for each record that the totals have grown by.
+pub fn read_block(table: &mut [u32], totals: &mut [u64], log: &[u8], text: &mut [u8]) -> Result<usize, Refused> {
+    let (table, table_len) = (table.as_mut_ptr(), table.len());
+    let (totals, totals_len) = (totals.as_mut_ptr(), totals.len());
+    let (log, log_len) = (log.as_ptr(), log.len());
+    let (text, text_len) = (text.as_mut_ptr(), text.len());
+    answer(unsafe { raw::castanetash_read_block(table, table_len, totals, totals_len, log, log_len, text, text_len) })
+}
+
+/// The refusals. The place is 1 for 4, 2 for 5, that of the field's first byte for 7, else 0.
+pub mod refused {
+    /// The message has no bytes.
+    pub const NO_BYTES: u32 = 1;
+    /// Bit 7 of its length is set: it would be over 127.
+    pub const TOO_LONG: u32 = 2;
+    /// Its length is not the number of its bytes, or is under 3.
+    pub const LENGTH: u32 = 3;
+    /// Its hub id is not 0.
+    pub const HUB_ID: u32 = 4;
+    /// Its type is unknown, or doesn't go this way.
+    pub const TYPE: u32 = 5;
+    /// It is too short for its selectors, or has no size for them.
+    pub const SIZE: u32 = 6;
+    /// A field is outside its list.
+    pub const FIELD: u32 = 7;
+    /// The output is shorter than the message to be written.
+    pub const OUTPUT: u32 = 8;
+    /// The lent cells are no sound table.
+    pub const TABLE: u32 = 9;
+    /// The port named isn't present.
+    pub const PORT_ABSENT: u32 = 10;
+    /// An attached port is present already.
+    pub const PORT_PRESENT: u32 = 11;
+    /// A bad pair: a member is absent, virtual or joined already, or both are the same; or a port to be disconnected
+    /// is not virtual.
+    pub const PAIR: u32 = 12;
+    /// Sixteen ports are present already.
+    pub const TABLE_FULL: u32 = 13;
+    /// A value of a port that has no mode yet: no 47 since it was attached.
+    pub const NO_MODE: u32 = 14;
+    /// A value in a mode that has no format yet: no such 44 since then.
+    pub const NO_FORMAT: u32 = 15;
+    /// A value whose bytes are not datasets times width of its format.
+    pub const VALUE_SIZE: u32 = 16;
+    /// No dataset of that number; any message but a value has none.
+    pub const NO_DATASET: u32 = 17;
+    /// A float dataset is an infinity or a NaN.
+    pub const NOT_FINITE: u32 = 18;
+    /// A log's record is malformed: only in the text of `read_block`.
+    pub const LOG_RECORD: u32 = 19;
+    /// A lent row is too short for the answer; or `write` is given a row that is no message's own.
+    pub const ROW: u32 = 255;
+}
+
+/// The cells of a message's row.
+pub mod row {
+    /// One of `form`.
+    pub const FORM: usize = 0;
+    /// Where the open bytes (a name, symbol, text or value) start in the message.
+    pub const OPEN_START: usize = 1;
+    /// How many they are, 0 for most forms.
+    pub const OPEN_COUNT: usize = 2;
+    /// How many values the form has.
+    pub const COUNT: usize = 3;
+    /// The first value; the others follow, and zeros after them.
+    pub const VALUES: usize = 4;
+}
+
+/// The forms, each with its type in hex, its way and its whole size.
+pub mod form {
+    // Hub Properties
+    /// 01 down, 5 bytes.
+    pub const PROPERTY_COMMAND: u64 = 1;
+    /// 01 both, 6 to 127 bytes.
+    pub const PROPERTY_TEXT: u64 = 2;
+    /// 01 both, 6 bytes.
+    pub const PROPERTY_BYTE: u64 = 3;
+    /// 01 up, 6 bytes.
+    pub const PROPERTY_RSSI: u64 = 4;
+    /// 01 up, 9 bytes.
+    pub const PROPERTY_VERSION: u64 = 5;
+    /// 01 up, 7 bytes.
+    pub const PROPERTY_PROTOCOL: u64 = 6;
+    /// 01 up, 11 bytes.
+    pub const PROPERTY_ADDRESS: u64 = 7;
+
+    // Hub Actions
+    /// 02 both, 4 bytes.
+    pub const HUB_ACTION: u64 = 8;
+
+    // Hub Alerts
+    /// 03 down, 5 bytes.
+    pub const ALERT_COMMAND: u64 = 9;
+    /// 03 up, 6 bytes.
+    pub const ALERT_UPDATE: u64 = 10;
+
+    // Hub Attached I/O
+    /// 04 up, 5 bytes.
+    pub const DETACHED: u64 = 11;
+    /// 04 up, 15 bytes.
+    pub const ATTACHED: u64 = 12;
+    /// 04 up, 9 bytes.
+    pub const ATTACHED_VIRTUAL: u64 = 13;
+
+    // Generic Error Messages
+    /// 05 up, 5 bytes.
+    pub const GENERIC_ERROR: u64 = 14;
+
+    // Firmware Update: Go Into Boot Mode, Lock Memory, Lock Status Request, Lock Status
+    /// 10 down, 12 bytes.
+    pub const GO_INTO_BOOT_MODE: u64 = 15;
+    /// 11 down, 11 bytes.
+    pub const LOCK_MEMORY: u64 = 16;
+    /// 12 down, 3 bytes.
+    pub const LOCK_STATUS_REQUEST: u64 = 17;
+    /// 13 up, 4 bytes.
+    pub const LOCK_STATUS: u64 = 18;
+
+    // Port Information Request, Port Mode Information Request
+    /// 21 down, 5 bytes.
+    pub const PORT_INFORMATION_REQUEST: u64 = 19;
+    /// 22 down, 6 bytes.
+    pub const MODE_INFORMATION_REQUEST: u64 = 20;
+
+    // Port Input Format Setup (Single): asks a port for a mode
+    /// 41 down, 10 bytes.
+    pub const INPUT_FORMAT_SETUP: u64 = 21;
+
+    // Port Information
+    /// 43 up, 11 bytes.
+    pub const PORT_MODES: u64 = 22;
+    /// 43 up, 7 to 21 bytes.
+    pub const PORT_COMBINATIONS: u64 = 23;
+
+    // Port Mode Information
+    /// 44 up, 7 to 17 bytes.
+    pub const MODE_TEXT: u64 = 24;
+    /// 44 up, 14 bytes.
+    pub const MODE_RANGE: u64 = 25;
+    /// 44 up, 8 bytes.
+    pub const MODE_MAPPING: u64 = 26;
+    /// 44 up, 7 bytes.
+    pub const MODE_BIAS: u64 = 27;
+    /// 44 up, 12 bytes.
+    pub const MODE_CAPABILITIES: u64 = 28;
+    /// 44 up, 10 bytes.
+    pub const VALUE_FORMAT: u64 = 29;
+
+    // Port Value (Single): the value of a port, in its mode
+    /// 45 up, 5 to 127 bytes.
+    pub const PORT_VALUE: u64 = 30;
+
+    // Port Input Format (Single): answers which mode a port is in
+    /// 47 up, 10 bytes.
+    pub const INPUT_FORMAT: u64 = 31;
+
+    // Virtual Port Setup
+    /// 61 down, 5 bytes.
+    pub const VIRTUAL_DISCONNECT: u64 = 32;
+    /// 61 down, 6 bytes.
+    pub const VIRTUAL_CONNECT: u64 = 33;
+}
+
+// The values of each form: where they stand in a row, and what may stand there, a list or any number of a width. i8 and
+// i32 are in two's complement of 64 bits, f32 the 32 bits of a finite float, u48 six bytes, the first the most
+// significant. `castanetash.h` says what the numbers of properties, actions and the like mean.
+
+pub mod property_command {
+    /// Selector: 1 to 15.
+    pub const PROPERTY: usize = 4;
+    /// Selector: 2 to 5.
+    pub const OPERATION: usize = 5;
+}
+
+/// The text is open bytes: 1 to 14 of property 1, 1 to 122 of 8 and 9.
+pub mod property_text {
+    /// Selector: 1, 8 or 9.
+    pub const PROPERTY: usize = 4;
+    /// Selector: 1 or 6.
+    pub const OPERATION: usize = 5;
+}
+
+pub mod property_byte {
+    /// Selector: 2, 6, 7, 11, 12 or 15.
+    pub const PROPERTY: usize = 4;
+    /// Selector: 1 or 6.
+    pub const OPERATION: usize = 5;
+    /// By its property.
+    pub const VALUE: usize = 6;
+}
+
+pub mod property_rssi {
+    /// Selector: 5.
+    pub const PROPERTY: usize = 4;
+    /// Selector: 6.
+    pub const OPERATION: usize = 5;
+    /// i8.
+    pub const RSSI: usize = 6;
+}
+
+pub mod property_version {
+    /// Selector: 3 or 4.
+    pub const PROPERTY: usize = 4;
+    /// Selector: 6.
+    pub const OPERATION: usize = 5;
+    /// i32.
+    pub const VERSION: usize = 6;
+}
+
+pub mod property_protocol {
+    /// Selector: 10.
+    pub const PROPERTY: usize = 4;
+    /// Selector: 6.
+    pub const OPERATION: usize = 5;
+    /// u16.
+    pub const VERSION: usize = 6;
+}
+
+pub mod property_address {
+    /// Selector: 13 or 14.
+    pub const PROPERTY: usize = 4;
+    /// Selector: 6.
+    pub const OPERATION: usize = 5;
+    /// u48.
+    pub const ADDRESS: usize = 6;
+}
+
+pub mod hub_action {
+    /// Selector: 1 to 6 or 47 down; 48 to 50 up.
+    pub const ACTION: usize = 4;
+}
+
+pub mod alert_command {
+    /// Selector: 1 to 4.
+    pub const ALERT: usize = 4;
+    /// Selector: 1 to 3.
+    pub const OPERATION: usize = 5;
+}
+
+pub mod alert_update {
+    /// Selector: 1 to 4.
+    pub const ALERT: usize = 4;
+    /// Selector: 4.
+    pub const OPERATION: usize = 5;
+    /// 0 fine or 255 alert.
+    pub const STATUS: usize = 6;
+}
+
+pub mod detached {
+    /// u8.
+    pub const PORT: usize = 4;
+    /// Selector: 0.
+    pub const EVENT: usize = 5;
+}
+
+pub mod attached {
+    /// u8.
+    pub const PORT: usize = 4;
+    /// Selector: 1.
+    pub const EVENT: usize = 5;
+    /// u16.
+    pub const DEVICE: usize = 6;
+    /// i32, the hardware revision.
+    pub const HARDWARE: usize = 7;
+    /// i32, the software revision.
+    pub const SOFTWARE: usize = 8;
+}
+
+pub mod attached_virtual {
+    /// u8.
+    pub const PORT: usize = 4;
+    /// Selector: 2.
+    pub const EVENT: usize = 5;
+    /// u16.
+    pub const DEVICE: usize = 6;
+    /// u8.
+    pub const PORT_A: usize = 7;
+    /// u8.
+    pub const PORT_B: usize = 8;
+}
+
+pub mod generic_error {
+    /// u8, the type of the message that it is about.
+    pub const COMMAND: usize = 4;
+    /// 1 to 8.
+    pub const ERROR: usize = 5;
+}
+
+pub mod lock_status {
+    /// u8; 0 locked, 255 not locked.
+    pub const STATUS: usize = 4;
+}
+
+pub mod port_information_request {
+    /// u8.
+    pub const PORT: usize = 4;
+    /// 0 to 2.
+    pub const INFORMATION: usize = 5;
+}
+
+pub mod mode_information_request {
+    /// u8.
+    pub const PORT: usize = 4;
+    /// 0 to 15.
+    pub const MODE: usize = 5;
+    /// 0 to 5, 7, 8 or 128.
+    pub const INFORMATION: usize = 6;
+}
+
+pub mod input_format_setup {
+    /// u8.
+    pub const PORT: usize = 4;
+    /// 0 to 15.
+    pub const MODE: usize = 5;
+    /// u32, the least change that is sent.
+    pub const DELTA: usize = 6;
+    /// 1 if changes are sent, else 0.
+    pub const NOTIFY: usize = 7;
+}
+
+pub mod port_modes {
+    /// u8.
+    pub const PORT: usize = 4;
+    /// Selector: 1.
+    pub const INFORMATION: usize = 5;
+    /// 0 to 15: 1 output, 2 input, 4 combinable, 8 synchronizable.
+    pub const CAPABILITIES: usize = 6;
+    /// u8.
+    pub const MODE_COUNT: usize = 7;
+    /// u16, a bit a mode.
+    pub const INPUT_MODES: usize = 8;
+    /// u16, a bit a mode.
+    pub const OUTPUT_MODES: usize = 9;
+}
+
+pub mod port_combinations {
+    /// u8.
+    pub const PORT: usize = 4;
+    /// Selector: 2.
+    pub const INFORMATION: usize = 5;
+    /// 1 to 8.
+    pub const COUNT: usize = 6;
+    /// The first of eight u16, a bit a mode; those past the count are 0 after reading, and not looked at in writing.
+    pub const ENTRIES: usize = 7;
+}
+
+/// The name or symbol is open bytes.
+pub mod mode_text {
+    /// u8.
+    pub const PORT: usize = 4;
+    /// 0 to 15.
+    pub const MODE: usize = 5;
+    /// Selector: 0, 1 to 11 open bytes; or 4, 1 to 5 open bytes.
+    pub const INFORMATION: usize = 6;
+}
+
+pub mod mode_range {
+    /// u8.
+    pub const PORT: usize = 4;
+    /// 0 to 15.
+    pub const MODE: usize = 5;
+    /// Selector: 1 to 3.
+    pub const INFORMATION: usize = 6;
+    /// f32.
+    pub const LOWEST: usize = 7;
+    /// f32.
+    pub const HIGHEST: usize = 8;
+}
+
+pub mod mode_mapping {
+    /// u8.
+    pub const PORT: usize = 4;
+    /// 0 to 15.
+    pub const MODE: usize = 5;
+    /// Selector: 5.
+    pub const INFORMATION: usize = 6;
+    /// u16.
+    pub const MAPPING: usize = 7;
+}
+
+pub mod mode_bias {
+    /// u8.
+    pub const PORT: usize = 4;
+    /// 0 to 15.
+    pub const MODE: usize = 5;
+    /// Selector: 7.
+    pub const INFORMATION: usize = 6;
+    /// 0 to 100.
+    pub const BIAS: usize = 7;
+}
+
+pub mod mode_capabilities {
+    /// u8.
+    pub const PORT: usize = 4;
+    /// 0 to 15.
+    pub const MODE: usize = 5;
+    /// Selector: 8.
+    pub const INFORMATION: usize = 6;
+    /// u48.
+    pub const BITS: usize = 7;
+}
+
+pub mod value_format {
+    /// u8.
+    pub const PORT: usize = 4;
+    /// 0 to 15.
+    pub const MODE: usize = 5;
+    /// Selector: 128.
+    pub const INFORMATION: usize = 6;
+    /// 1 to 16.
+    pub const DATASETS: usize = 7;
+    /// 0 to 3: one of `format_kind`.
+    pub const KIND: usize = 8;
+    /// u8, figures in all.
+    pub const FIGURES: usize = 9;
+    /// u8.
+    pub const DECIMALS: usize = 10;
+}
+
+/// The value is open bytes, 1 to 123.
+pub mod port_value {
+    /// u8.
+    pub const PORT: usize = 4;
+}
+
+pub mod input_format {
+    /// u8.
+    pub const PORT: usize = 4;
+    /// 0 to 15.
+    pub const MODE: usize = 5;
+    /// u32.
+    pub const DELTA: usize = 6;
+    /// 0 or 1.
+    pub const NOTIFY: usize = 7;
+}
+
+pub mod virtual_disconnect {
+    /// Selector: 0.
+    pub const SUB: usize = 4;
+    /// u8.
+    pub const PORT: usize = 5;
+}
+
+pub mod virtual_connect {
+    /// Selector: 1.
+    pub const SUB: usize = 4;
+    /// u8.
+    pub const PORT_A: usize = 5;
+    /// u8.
+    pub const PORT_B: usize = 6;
+}
+
+/// How a port's latest 47 stands to its latest 41.
+pub mod state {
+    /// There was no 41.
+    pub const NOTHING_ASKED: u64 = 0;
+    /// There was no 47 since the latest 41: values are still in the old mode.
+    pub const UNANSWERED: u64 = 1;
+    /// The latest 47 came after it, with equal mode, delta and notify.
+    pub const AS_ASKED: u64 = 2;
+    /// The latest 47 came after it, and differs.
+    pub const OTHERWISE: u64 = 3;
+}
+
+/// The cells of a dataset.
+pub mod dataset_cell {
+    /// One of `dataset_kind`.
+    pub const KIND: usize = 0;
+    /// A whole number in two's complement: `as i64`; a float as its 32 bits: `f32::from_bits`.
+    pub const VALUE: usize = 1;
+    pub const PORT: usize = 2;
+    /// The mode that the hub last answered, and that the value is read by.
+    pub const MODE: usize = 3;
+    /// One of `state`.
+    pub const STATE: usize = 4;
+    /// Of the experiment that asked for it; 0 unless the state is 2.
+    pub const EXPERIMENT: usize = 5;
+}
+
+/// What a dataset is.
+pub mod dataset_kind {
+    pub const WHOLE: u64 = 0;
+    pub const FLOAT: u64 = 1;
+}
+
+/// The cells of a port. What isn't known is 0.
+pub mod port_cell {
+    /// One of `wiring`.
+    pub const WIRING: usize = 0;
+    pub const DEVICE: usize = 1;
+    /// A joined port's virtual port; a virtual port's first member, as sent.
+    pub const PARTNER: usize = 2;
+    /// A virtual port's second member, as sent.
+    pub const SECOND: usize = 3;
+    /// One of `state`.
+    pub const STATE: usize = 4;
+    /// 1 if there was a 41; of the latest follow.
+    pub const ASKED: usize = 5;
+    pub const ASKED_MODE: usize = 6;
+    pub const ASKED_DELTA: usize = 7;
+    pub const ASKED_NOTIFY: usize = 8;
+    /// 1 if there was a 47; of the latest follow.
+    pub const ANSWERED: usize = 9;
+    pub const ANSWERED_MODE: usize = 10;
+    pub const ANSWERED_DELTA: usize = 11;
+    pub const ANSWERED_NOTIFY: usize = 12;
+    /// That of the latest 41.
+    pub const EXPERIMENT: usize = 13;
+}
+
+/// What a port is.
+pub mod wiring {
+    pub const ABSENT: u64 = 0;
+    /// Physical, and no member of a virtual port.
+    pub const UNJOINED: u64 = 1;
+    /// Physical, and a member of a virtual port.
+    pub const JOINED: u64 = 2;
+    pub const VIRTUAL: u64 = 3;
+}
+
+/// The cells of a mode's format. What isn't known is 0.
+pub mod format_cell {
+    /// 1 if the format is known.
+    pub const KNOWN: usize = 0;
+    /// 1 to 16.
+    pub const DATASETS: usize = 1;
+    /// One of `format_kind`.
+    pub const KIND: usize = 2;
+    pub const FIGURES: usize = 3;
+    pub const DECIMALS: usize = 4;
+}
+
+/// The kinds of a format: signed whole numbers of 1, 2 and 4 bytes, and floats.
+pub mod format_kind {
+    pub const INT8: u64 = 0;
+    pub const INT16: u64 = 1;
+    pub const INT32: u64 = 2;
+    pub const FLOAT: u64 = 3;
+}
+
+/// The cells of a log's totals.
+pub mod totals {
+    /// Records so far.
+    pub const RECORDS: usize = 0;
+    /// Refused ones among them.
+    pub const REFUSED: usize = 1;
+}
+
 /// The library's functions.
 pub mod raw {
     #[link(name = "castanetash", kind = "static")]
-    extern "C" {
-        pub fn castanetash_read(
-            message: *const u8,
-            message_len: usize,
-            way: u8,
-            row: *mut u64,
-            row_len: usize,
-        ) -> u64;
+    unsafe extern "C" {
+        pub fn castanetash_read(message: *const u8, message_len: usize, way: u8, row: *mut u64, row_len: usize) -> u64;
 
         pub fn castanetash_write(
             row: *const u64,
@@ -103,13 +714,7 @@ pub mod raw {
 
         pub fn castanetash_ports(table: *const u32, table_len: usize, ports: *mut u8, ports_len: usize) -> u64;
 
-        pub fn castanetash_port(
-            table: *const u32,
-            table_len: usize,
-            port: u8,
-            row: *mut u64,
-            row_len: usize,
-        ) -> u64;
+        pub fn castanetash_port(table: *const u32, table_len: usize, port: u8, row: *mut u64, row_len: usize) -> u64;
 
         pub fn castanetash_format(
             table: *const u32,
