@@ -138,7 +138,8 @@ fn every_pair_of_selectors() {
     ] {
         assert_eq!(tally.seen_for(form, 0), pairs, "{form:?}");
     }
-    tally.expect_numbers([7, 255], 100_000);
+    assert_eq!(tally.seen(0) + tally.seen(6) + tally.seen(7), tally.calls());
+    tally.expect_numbers([7], 100_000);
 }
 
 /// Numbers of one bit, of all bits below it, and their complements, for every value of every form.

@@ -53,7 +53,11 @@ fn fill_past_count(random: &mut Random, call: &mut Call) {
     if call.form == Form::PortCombinations {
         let count = call.values[2] as usize;
         for entry in &mut call.values[3..][count..] {
-            *entry = of_kind(random, Kind::TwoBytes);
+            *entry = if random.once_in(2) {
+                of_kind(random, Kind::TwoBytes)
+            } else {
+                random.number()
+            };
         }
     }
 }
