@@ -68,16 +68,30 @@ impl<T: Filling> Lent<T> {
     /// Panics unless the lent places start with `start`, and all else is as it was.
     #[track_caller]
     pub fn expect(&self, start: &[T], name: &str) {
-        let end = MARGIN + start.len();
-        assert_eq!(self.memory[MARGIN..end], *start, "{name}: what is written");
-        assert_eq!(self.memory[..MARGIN], self.before[..MARGIN], "{name}: what is before");
-        assert_eq!(self.memory[end..], self.before[end..], "{name}: what is behind");
+        assert!(
+            self.is_changed_to(start),
+            "{name}: not {start:X?} and the rest as it was\nbefore {:X?}\nafter  {:X?}",
+            self.before,
+            self.memory
+        );
     }
 
     /// Panics unless everything is as it was.
     #[track_caller]
     pub fn expect_unchanged(&self, name: &str) {
-        assert_eq!(self.memory, self.before, "{name}: something changed");
+        assert!(
+            self.is_changed_to(&[]),
+            "{name}: something changed\nbefore {:X?}\nafter  {:X?}",
+            self.before,
+            self.memory
+        );
+    }
+
+    fn is_changed_to(&self, start: &[T]) -> bool {
+        let end = MARGIN + start.len();
+        self.memory[MARGIN..end] == *start
+            && self.memory[..MARGIN] == self.before[..MARGIN]
+            && self.memory[end..] == self.before[end..]
     }
 }
 
@@ -86,20 +100,25 @@ mod tests {
     use super::Lent;
 
     #[test]
-    fn a_change_is_seen() {
+    fn every_change_is_seen() {
         let mut lent = Lent::<u64>::filled(3);
-        lent.expect_unchanged("nothing");
+        assert!(lent.is_changed_to(&[]));
         lent.lend()[1] = 5;
-        lent.expect(&[lent.contents()[0], 5], "the second of three");
-        for place in 0..19 {
+        let start = [lent.contents()[0], 5];
+        assert!(lent.is_changed_to(&start));
+        assert!(!lent.is_changed_to(&[]));
+        for place in 0..lent.memory.len() {
             let mut changed = lent.clone();
             changed.memory[place] ^= 1;
-            let seen = |check: &dyn Fn()| std::panic::catch_unwind(std::panic::AssertUnwindSafe(check)).is_err();
-            assert!(seen(&|| changed.expect_unchanged("a place")), "place {place}");
-            assert!(
-                seen(&|| changed.expect(&lent.contents()[..2], "a place")),
-                "place {place}"
-            );
+            assert!(!changed.is_changed_to(&start), "place {place}");
+            assert!(!changed.is_changed_to(&[]), "place {place}");
         }
+    }
+
+    #[test]
+    fn fillings_differ() {
+        let lent = Lent::<u8>::filled(100);
+        assert!(lent.before.windows(2).all(|pair| pair[0] != pair[1]));
+        assert!(lent.before.iter().all(|&byte| byte >= 0x80));
     }
 }

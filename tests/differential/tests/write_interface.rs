@@ -62,7 +62,7 @@ fn fewer_cells_are_no_row_and_more_are_not_looked_at() {
         }
     }
     println!("rows of every length: {tally}");
-    tally.expect_numbers([5, 6, 255], 1000);
+    tally.expect_numbers([5, 6, 255], 500);
 }
 
 #[test]
@@ -118,7 +118,7 @@ fn values_outside_their_kind() {
     }
     println!("values outside their kind: {fixed} selectors that the form decides, {wide} others\n{tally}");
     assert!(fixed >= 100 && wide >= 1000);
-    tally.expect_forms([5, 7, 255], 4);
+    tally.expect_forms([7, 255], 4);
     tally.expect_numbers([5, 6, 7, 255], 500);
 }
 

@@ -144,25 +144,23 @@ impl Trio {
         }
     }
 
-    /// Compares what is held about a port, and the formats of its modes.
-    pub fn compare_port(&mut self, tally: &mut TableTally, port: u8) {
+    /// Compares what is held about a port, and the formats of its modes. Gives whether the product has it as present.
+    pub fn compare_port(&mut self, tally: &mut TableTally, port: u8) -> bool {
         let answer = self.table.port(port);
         assert_eq!(
             self.list.port(port),
             answer,
             "the second program differs on port {port}"
         );
-        assert_eq!(
-            self.product.port(port),
-            port_cells(Ok(answer)),
-            "the product differs on port {port}"
-        );
+        let by_product = self.product.port(port);
+        assert_eq!(by_product, port_cells(Ok(answer)), "the product differs on port {port}");
         tally.count_port(answer);
         // No mode of an absent port has a format; a mode over 15 has none either.
         match answer {
             Some(_) => (0..=16).for_each(|mode| self.compare_format(tally, port, mode)),
             None => self.compare_format(tally, port, port % 16),
         }
+        by_product != Ok([0; PORT_CELLS])
     }
 
     /// Compares the ports, and the list of those that are present.
@@ -178,9 +176,8 @@ impl Trio {
 
     /// Compares all 256 ports, and the list of those that are present with them.
     pub fn compare_all_ports(&mut self, tally: &mut TableTally) {
-        self.compare_ports(tally, 0..=255);
-        let is_present = |port: &u8| self.product.port(*port) != Ok([0; PORT_CELLS]);
-        let present: Vec<u8> = (0..=255).filter(is_present).collect();
+        let present: Vec<u8> = (0..=255).filter(|&port| self.compare_port(tally, port)).collect();
+        tally.count_ports(present.len());
         assert!(
             self.list.ports().eq(present.iter().copied()),
             "the second program differs on the ports"
