@@ -1,5 +1,6 @@
-//! Links the product's static library. Its folder is `target/staticlib` at the repository root, or the one that
-//! CASTANETASH_LIB names, absolute or seen from the root. The tests of callers get it as CASTANETASH_LIB_FOLDER.
+//! Finds the product's static library, which the declarations for Rust link. Its folder is `target/staticlib` at the
+//! repository root, or the one that CASTANETASH_LIB names, absolute or seen from the root. The tests of callers get it as
+//! CASTANETASH_LIB_FOLDER.
 
 use std::env;
 use std::path::Path;
@@ -12,7 +13,7 @@ fn main() {
         .expect("this package lies two folders below the root");
     let folder = env::var("CASTANETASH_LIB").unwrap_or_else(|_| "target/staticlib".to_owned());
     let folder = root.join(folder);
-    let archive = folder.join("libcapi.a");
+    let archive = folder.join("libcastanetash.a");
     if !archive.exists() {
         println!(
             "cargo:warning=the product's library {} doesn't exist",
@@ -21,7 +22,6 @@ fn main() {
     }
     println!("cargo:rustc-link-search=native={}", folder.display());
     println!("cargo:rustc-env=CASTANETASH_LIB_FOLDER={}", folder.display());
-    println!("cargo:rustc-link-lib=static=capi");
     println!("cargo:rerun-if-changed={}", archive.display());
     println!("cargo:rerun-if-env-changed=CASTANETASH_LIB");
 }

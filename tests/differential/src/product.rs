@@ -1,122 +1,79 @@
-use yardstick::Way;
+//! The product's functions with slices. Those that they only look at are lent as such that may change where a test has to
+//! see that they don't.
 
-use crate::cells::{Cells, CELLS};
+use yardstick::{Row, Way};
 
-mod interface {
-    extern "C" {
-        pub fn castanetash_read(
-            message: *const u8,
-            message_len: usize,
-            way: u8,
-            cells: *mut u64,
-            cells_len: usize,
-        ) -> usize;
+use crate::castanetash::{raw, ROW_CELLS};
 
-        pub fn castanetash_write(
-            cells: *const u64,
-            cells_len: usize,
-            way: u8,
-            open: *const u8,
-            open_len: usize,
-            output: *mut u8,
-            output_len: usize,
-        ) -> u64;
+/// The product's reading of one message. Way 0 is down, any other up.
+#[allow(unsafe_code)]
+pub fn castanetash_read(message: &[u8], way: u8, row: &mut [u64]) -> u64 {
+    // SAFETY: each pointer comes from a slice of the length passed with it; the callee keeps neither pointer, reads
+    // only the message and writes only the row.
+    unsafe { raw::castanetash_read(message.as_ptr(), message.len(), way, row.as_mut_ptr(), row.len()) }
+}
 
-        pub fn castanetash_empty(table: *mut u32, table_len: usize) -> u64;
+/// The cells of a row, and two more, beforehand.
+const FILLING: [u64; ROW_CELLS + 2] = {
+    let mut filling = [0; ROW_CELLS + 2];
+    let mut place = 0;
+    while place < filling.len() {
+        filling[place] = 0xA5A5_0000_0000_5A00 | place as u64;
+        place += 1;
+    }
+    filling
+};
 
-        pub fn castanetash_offer(
-            table: *mut u32,
-            table_len: usize,
-            message: *const u8,
-            message_len: usize,
-            way: u8,
-            experiment: u16,
-        ) -> u64;
-
-        pub fn castanetash_dataset(
-            table: *const u32,
-            table_len: usize,
-            message: *const u8,
-            message_len: usize,
-            way: u8,
-            number: usize,
-            cells: *mut u64,
-            cells_len: usize,
-        ) -> usize;
-
-        pub fn castanetash_port(
-            table: *const u32,
-            table_len: usize,
-            port: u8,
-            cells: *mut u64,
-            cells_len: usize,
-        ) -> usize;
-
-        pub fn castanetash_format(
-            table: *const u32,
-            table_len: usize,
-            port: u8,
-            mode: u8,
-            cells: *mut u64,
-            cells_len: usize,
-        ) -> usize;
+/// The product's answer to one message: its row, or a refusal, which has to leave all cells alone.
+pub fn read(way: Way, message: &[u8]) -> Result<Row, u64> {
+    let mut cells = FILLING;
+    let answer = castanetash_read(message, way_byte(way), &mut cells);
+    if answer == ROW_CELLS as u64 {
+        assert_eq!(cells[ROW_CELLS..], FILLING[ROW_CELLS..], "the cells past a row");
+        Ok(*cells.first_chunk().expect("as many cells as a row has"))
+    } else {
+        assert_eq!(cells, FILLING, "a refused reading changes nothing");
+        Err(answer)
     }
 }
 
-/// The product's reading of one message, as its C interface gives it. Way 0 is down, any other up.
+/// The product's writing of one message. Way 0 is down, any other up.
 #[allow(unsafe_code)]
-pub fn castanetash_read(message: &[u8], way: u8, cells: &mut [u64]) -> usize {
-    // SAFETY: each pointer comes from a slice of the length passed with it; the callee keeps neither pointer, reads
-    // only the message and writes only the cells.
-    unsafe { interface::castanetash_read(message.as_ptr(), message.len(), way, cells.as_mut_ptr(), cells.len()) }
-}
-
-/// The product's answer to one message. Every cell has to be filled: each holds something else beforehand.
-pub fn read(way: Way, message: &[u8]) -> Cells {
-    let mut cells = [u64::MAX; CELLS];
-    let filled = castanetash_read(message, way_byte(way), &mut cells);
-    assert_eq!(filled, CELLS, "the product fills all cells");
-    cells
-}
-
-/// The product's writing of one message, as its C interface gives it. Way 0 is down, any other up.
-#[allow(unsafe_code)]
-pub fn castanetash_write(cells: &[u64], way: u8, open: &[u8], output: &mut [u8]) -> u64 {
+pub fn castanetash_write(row: &[u64], way: u8, open: &[u8], out: &mut [u8]) -> u64 {
     // SAFETY: each pointer comes from a slice of the length passed with it; the callee keeps none of the pointers,
-    // reads only the cells and the open bytes and writes only the output.
+    // reads only the row and the open bytes and writes only the output.
     unsafe {
-        interface::castanetash_write(
-            cells.as_ptr(),
-            cells.len(),
+        raw::castanetash_write(
+            row.as_ptr(),
+            row.len(),
             way,
             open.as_ptr(),
             open.len(),
-            output.as_mut_ptr(),
-            output.len(),
+            out.as_mut_ptr(),
+            out.len(),
         )
     }
 }
 
 /// The product's answer to one message to be written.
-pub fn write(way: Way, cells: &Cells, open: &[u8], output: &mut [u8]) -> u64 {
-    castanetash_write(cells, way_byte(way), open, output)
+pub fn write(way: Way, row: &[u64], open: &[u8], out: &mut [u8]) -> u64 {
+    castanetash_write(row, way_byte(way), open, out)
 }
 
-/// Makes a table an empty one, as the product's C interface does it.
+/// Makes a table an empty one.
 #[allow(unsafe_code)]
 pub fn castanetash_empty(table: &mut [u32]) -> u64 {
     // SAFETY: the pointer comes from a slice of the length passed with it, and the callee doesn't keep it.
-    unsafe { interface::castanetash_empty(table.as_mut_ptr(), table.len()) }
+    unsafe { raw::castanetash_empty(table.as_mut_ptr(), table.len()) }
 }
 
-/// Offers a message with its experiment number to a table, as the product's C interface does it. Way 0 is down, any
-/// other up.
+/// Offers a message with its experiment number to a table. Way 0 is down, any other up.
 #[allow(unsafe_code)]
 pub fn castanetash_offer(table: &mut [u32], message: &[u8], way: u8, experiment: u16) -> u64 {
     // SAFETY: each pointer comes from a slice of the length passed with it; the callee keeps neither pointer, reads
     // only the table and the message and writes only the table.
     unsafe {
-        interface::castanetash_offer(
+        raw::castanetash_offer(
             table.as_mut_ptr(),
             table.len(),
             message.as_ptr(),
@@ -127,52 +84,87 @@ pub fn castanetash_offer(table: &mut [u32], message: &[u8], way: u8, experiment:
     }
 }
 
-/// Hands out a dataset, as the product's C interface does it. Way 0 is down, any other up. The table is lent as one
-/// that may change, so that a test can see that it doesn't.
+/// Hands out a dataset. Way 0 is down, any other up.
 #[allow(unsafe_code)]
-pub fn castanetash_dataset(table: &mut [u32], message: &[u8], way: u8, number: usize, cells: &mut [u64]) -> usize {
+pub fn castanetash_dataset(table: &mut [u32], message: &[u8], way: u8, number: usize, row: &mut [u64]) -> u64 {
     // SAFETY: each pointer comes from a slice of the length passed with it; the callee keeps none of the pointers,
-    // reads only the table and the message and writes only the cells.
+    // reads only the table and the message and writes only the row.
     unsafe {
-        interface::castanetash_dataset(
+        raw::castanetash_dataset(
             table.as_mut_ptr(),
             table.len(),
             message.as_ptr(),
             message.len(),
             way,
             number,
-            cells.as_mut_ptr(),
-            cells.len(),
+            row.as_mut_ptr(),
+            row.len(),
         )
     }
 }
 
-/// What a table holds about a port, as the product's C interface gives it. The table is lent as one that may change.
+/// Hands out all datasets of a value. Way 0 is down, any other up.
 #[allow(unsafe_code)]
-pub fn castanetash_port(table: &mut [u32], port: u8, cells: &mut [u64]) -> usize {
-    // SAFETY: each pointer comes from a slice of the length passed with it; the callee keeps neither pointer, reads
-    // only the table and writes only the cells.
-    unsafe { interface::castanetash_port(table.as_mut_ptr(), table.len(), port, cells.as_mut_ptr(), cells.len()) }
-}
-
-/// The format of a port's mode, as the product's C interface gives it. The table is lent as one that may change.
-#[allow(unsafe_code)]
-pub fn castanetash_format(table: &mut [u32], port: u8, mode: u8, cells: &mut [u64]) -> usize {
-    // SAFETY: each pointer comes from a slice of the length passed with it; the callee keeps neither pointer, reads
-    // only the table and writes only the cells.
+pub fn castanetash_values(table: &mut [u32], message: &[u8], way: u8, rows: &mut [u64]) -> u64 {
+    // SAFETY: each pointer comes from a slice of the length passed with it; the callee keeps none of the pointers,
+    // reads only the table and the message and writes only the rows.
     unsafe {
-        interface::castanetash_format(
+        raw::castanetash_values(
             table.as_mut_ptr(),
             table.len(),
-            port,
-            mode,
-            cells.as_mut_ptr(),
-            cells.len(),
+            message.as_ptr(),
+            message.len(),
+            way,
+            rows.as_mut_ptr(),
+            rows.len(),
         )
     }
 }
 
-/// A way as the C interface is told it.
+/// The ports of a table.
+#[allow(unsafe_code)]
+pub fn castanetash_ports(table: &mut [u32], ports: &mut [u8]) -> u64 {
+    // SAFETY: each pointer comes from a slice of the length passed with it; the callee keeps neither pointer, reads
+    // only the table and writes only the ports.
+    unsafe { raw::castanetash_ports(table.as_mut_ptr(), table.len(), ports.as_mut_ptr(), ports.len()) }
+}
+
+/// What a table holds about a port.
+#[allow(unsafe_code)]
+pub fn castanetash_port(table: &mut [u32], port: u8, row: &mut [u64]) -> u64 {
+    // SAFETY: each pointer comes from a slice of the length passed with it; the callee keeps neither pointer, reads
+    // only the table and writes only the row.
+    unsafe { raw::castanetash_port(table.as_mut_ptr(), table.len(), port, row.as_mut_ptr(), row.len()) }
+}
+
+/// The format of a port's mode.
+#[allow(unsafe_code)]
+pub fn castanetash_format(table: &mut [u32], port: u8, mode: u8, row: &mut [u64]) -> u64 {
+    // SAFETY: each pointer comes from a slice of the length passed with it; the callee keeps neither pointer, reads
+    // only the table and writes only the row.
+    unsafe { raw::castanetash_format(table.as_mut_ptr(), table.len(), port, mode, row.as_mut_ptr(), row.len()) }
+}
+
+/// Works through a block of a log.
+#[allow(unsafe_code)]
+pub fn castanetash_read_block(table: &mut [u32], totals: &mut [u64], log: &[u8], text: &mut [u8]) -> u64 {
+    // SAFETY: each pointer comes from a slice of the length passed with it; the callee keeps none of the pointers,
+    // reads only the table, the totals and the log and writes only the table, the totals and the text.
+    unsafe {
+        raw::castanetash_read_block(
+            table.as_mut_ptr(),
+            table.len(),
+            totals.as_mut_ptr(),
+            totals.len(),
+            log.as_ptr(),
+            log.len(),
+            text.as_mut_ptr(),
+            text.len(),
+        )
+    }
+}
+
+/// A way as the product is told it.
 pub fn way_byte(way: Way) -> u8 {
     match way {
         Way::Down => 0,

@@ -1,8 +1,8 @@
 use std::fmt;
 
-use yardstick::{decode, Form, Way};
+use yardstick::{decode, Form, Row, Way};
 
-use crate::cells::{cells, Cells};
+use crate::answer::{number, row_answer};
 use crate::product;
 
 /// Compares the two programs, and counts what was compared.
@@ -23,16 +23,21 @@ impl Default for Tally {
 }
 
 impl Tally {
-    /// Reads a message by both programs. Panics if the answers differ in any cell.
+    /// Reads a message by both programs. Panics if the answers differ in any cell, in a refusal or in its place.
     pub fn compare(&mut self, way: Way, message: &[u8]) {
-        let answer = cells(&decode(way, message));
+        let answer = row_answer(&decode(way, message));
         let product = product::read(way, message);
         if answer != product {
             differ(way, message, &answer, &product);
         }
         self.messages += 1;
-        self.refusals[answer[0] as usize] += 1;
-        self.forms[answer[2] as usize] += 1;
+        match answer {
+            Ok(row) => {
+                self.refusals[0] += 1;
+                self.forms[row[0] as usize] += 1;
+            }
+            Err(answer) => self.refusals[number(answer)] += 1,
+        }
     }
 
     /// Compares a message both ways.
@@ -90,9 +95,9 @@ fn hex(bytes: &[u8]) -> String {
 }
 
 #[cold]
-fn differ(way: Way, message: &[u8], answer: &Cells, product: &Cells) -> ! {
+fn differ(way: Way, message: &[u8], answer: &Result<Row, u64>, product: &Result<Row, u64>) -> ! {
     panic!(
-        "the programs differ on `{}` {way:?}\nsecond program {answer:?}\nproduct        {product:?}",
+        "the programs differ on `{}` {way:?}\nsecond program {answer:X?}\nproduct        {product:X?}",
         hex(message)
     );
 }

@@ -1,6 +1,6 @@
 //! Both programs give every answer that is written out by hand.
 
-use differential::{cells, read, Tally};
+use differential::{read, row_answer, Tally};
 use yardstick::decode;
 use yardstick::examples::{Example, BENCH, FORMS, ORDER};
 
@@ -11,7 +11,7 @@ fn check(examples: &[Example]) -> Tally {
         let answer = example.answer();
         let name = format!("`{}` {:?}", example.message, example.way);
         assert_eq!(decode(example.way, &message), answer, "second program on {name}");
-        assert_eq!(read(example.way, &message), cells(&answer), "product on {name}");
+        assert_eq!(read(example.way, &message), row_answer(&answer), "product on {name}");
         tally.compare(example.way, &message);
     }
     println!("{tally}");

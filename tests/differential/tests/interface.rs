@@ -1,39 +1,45 @@
-//! The edges of the C interface: how many cells are lent, and how the way is told.
+//! The edges of reading: how many cells are lent for the row, and how the way is told.
 
-use differential::{castanetash_read, cells, read, CELLS};
+use differential::castanetash::{answer, Refused};
+use differential::{castanetash_read, number, read, row_answer, Filling, Lent, ROW_CELLS, TOO_SHORT};
 use yardstick::examples::{BENCH, FORMS, ORDER};
 use yardstick::{decode, Way};
 
-/// What stands in the cells beforehand, a different number in each.
-fn pattern(length: usize) -> Vec<u64> {
-    (0..length as u64).map(|cell| 0xA5A5_0000_0000_5A00 | cell).collect()
-}
-
+/// Every number of cells from none to twice a row's. Only an accepted message with a whole row changes cells, and only
+/// those of the row; a refused message's own refusal comes before that of a short row.
 #[test]
 fn only_the_first_cells_change() {
-    let mut calls = 0;
+    let [mut accepted, mut refused, mut too_short] = [0, 0, 0];
     for example in BENCH.iter().chain(FORMS).chain(ORDER) {
-        let message = example.bytes();
+        let mut message = Lent::holding(&example.bytes());
         let way = u8::from(example.way == Way::Up);
-        let answer = cells(&example.answer());
-        for length in [0, 1, 6, 19, 20, 21, 40] {
-            let before = pattern(length);
-            let mut lent = before.clone();
-            let filled = castanetash_read(&message, way, &mut lent);
+        let expected = row_answer(&example.answer());
+        for length in 0..=2 * ROW_CELLS {
             let name = format!("`{}` {:?}, {length} cells", example.message, example.way);
-            if length < CELLS {
-                assert_eq!(filled, 0, "{name}");
-                assert_eq!(lent, before, "{name}");
-            } else {
-                assert_eq!(filled, CELLS, "{name}");
-                assert_eq!(lent[..CELLS], answer, "{name}");
-                assert_eq!(lent[CELLS..], before[CELLS..], "{name}");
+            let mut row = Lent::filled(length);
+            let answer = castanetash_read(message.lend(), way, row.lend());
+            message.expect_unchanged(&name);
+            match expected {
+                Ok(cells) if length >= ROW_CELLS => {
+                    assert_eq!(answer, ROW_CELLS as u64, "{name}");
+                    row.expect(&cells, &name);
+                    accepted += 1;
+                }
+                Ok(_) => {
+                    assert_eq!(answer, TOO_SHORT, "{name}");
+                    row.expect_unchanged(&name);
+                    too_short += 1;
+                }
+                Err(refusal) => {
+                    assert_eq!(answer, refusal, "{name}");
+                    row.expect_unchanged(&name);
+                    refused += 1;
+                }
             }
-            calls += 1;
         }
     }
-    println!("{calls} calls");
-    assert!(calls >= 1000);
+    println!("{accepted} accepted, {refused} refused, {too_short} with too short a row");
+    assert!(accepted >= 1000 && refused >= 1000 && too_short >= 1000);
 }
 
 #[test]
@@ -45,10 +51,62 @@ fn way_0_is_down_and_any_other_up() {
     ] {
         for byte in 0..=255 {
             let way = if byte == 0 { Way::Down } else { Way::Up };
-            let mut lent = pattern(CELLS);
-            assert_eq!(castanetash_read(message, byte, &mut lent), CELLS);
-            assert_eq!(lent, cells(&decode(way, message)), "{message:?}, way {byte}");
+            let name = format!("{message:02X?}, way {byte}");
+            let mut row = Lent::filled(ROW_CELLS);
+            let answer = castanetash_read(message, byte, row.lend());
+            match row_answer(&decode(way, message)) {
+                Ok(cells) => {
+                    assert_eq!(answer, ROW_CELLS as u64, "{name}");
+                    row.expect(&cells, &name);
+                }
+                Err(refusal) => {
+                    assert_eq!(answer, refusal, "{name}");
+                    row.expect_unchanged(&name);
+                }
+            }
         }
         assert_ne!(read(Way::Down, message), read(Way::Up, message), "{message:?} each way");
+    }
+}
+
+/// What stands in the lent cells is never what an accepted message puts there.
+#[test]
+fn no_row_has_the_filling() {
+    for example in FORMS {
+        let row = example.answer().expect("the examples of forms are accepted").row();
+        for place in 0..100 {
+            assert!(!row.contains(&u64::filling(place)), "`{}`", example.message);
+        }
+    }
+}
+
+/// The numbers of the declarations for Rust, and how an answer of the product is taken apart there.
+#[test]
+fn declarations() {
+    use differential::castanetash as declared;
+    assert_eq!([declared::DOWN, declared::UP], [0, 1]);
+    assert_eq!(declared::LONGEST, 127);
+    assert_eq!(declared::ROW_CELLS, yardstick::ROW_CELLS);
+    assert_eq!(declared::TABLE_CELLS, yardstick::TABLE_CELLS);
+    assert_eq!(
+        [declared::DATASET_CELLS, declared::PORT_CELLS, declared::FORMAT_CELLS],
+        [6, 14, 5]
+    );
+    assert_eq!(declared::TOTALS_CELLS, 2);
+    assert_eq!([declared::MOST_DATASETS, declared::MOST_PORTS], [16, yardstick::PLACES]);
+    assert_eq!(
+        [declared::RECORD, declared::LINE_ROOM],
+        [yardstick::LOG_RECORD, yardstick::LINE_ROOM]
+    );
+    for written in [0, 1, 16, 127, 65_535, u32::MAX] {
+        assert_eq!(answer(written.into()), Ok(written as usize));
+    }
+    for refused in [1, 7, 9, 19, 255] {
+        for place in [0, 2, 126] {
+            let refusal = Refused { number: refused, place };
+            let by_product = u64::from(refused) << 32 | u64::from(place);
+            assert_eq!(answer(by_product), Err(refusal));
+            assert_eq!(number(by_product), refused as usize);
+        }
     }
 }

@@ -2,7 +2,7 @@
 
 use std::collections::BTreeMap;
 
-use differential::{near_call, plausible, read, write, Call, Random, CELLS};
+use differential::{near_call, plausible, read, write, Call, Random, ROW_CELLS};
 use yardstick::Form;
 
 /// How many messages are tried. Those that are accepted make the trip.
@@ -44,7 +44,7 @@ fn complement(message: &[u8]) -> Vec<u8> {
     output
 }
 
-/// Bytes that reading accepts are written from the cells of that reading.
+/// Bytes that reading accepts are written from the row of that reading.
 #[test]
 fn read_then_write() {
     let mut random = Random::new(6);
@@ -52,14 +52,13 @@ fn read_then_write() {
     let mut message = Vec::new();
     for _ in 0..TRIED {
         let way = plausible(&mut random, &mut message);
-        let cells = read(way, &message);
-        if cells[0] != 0 {
+        let Ok(row) = read(way, &message) else {
             continue;
-        }
-        trips.count(cells[2]);
-        let open = &message[cells[3] as usize..][..cells[4] as usize];
+        };
+        trips.count(row[0]);
+        let open = &message[row[1] as usize..][..row[2] as usize];
         let mut output = complement(&message);
-        let length = write(way, &cells, open, &mut output);
+        let length = write(way, &row, open, &mut output);
         assert_eq!(length, message.len() as u64, "length of {message:02X?}");
         assert_eq!(output[..message.len()], message, "bytes of {message:02X?}");
         assert_eq!(output[message.len()..], [0xA5, 0x5A, 0xC3], "bytes past {message:02X?}");
@@ -85,22 +84,22 @@ fn write_then_read() {
     for _ in 0..TRIED {
         let call = near_call(&mut random);
         let mut output = vec![0xA5; call.output];
-        let length = write(call.way, &call.cells(), &call.open, &mut output) as usize;
+        let length = write(call.way, &call.row(), &call.open, &mut output) as usize;
         if length >= REFUSED {
             continue;
         }
         trips.count(call.form.number().into());
         let message = &output[..length];
         let values = settled(&call);
-        let mut cells = [0; CELLS];
-        cells[2] = call.form.number().into();
+        let mut row = [0; ROW_CELLS];
+        row[0] = call.form.number().into();
         if !call.open.is_empty() {
-            cells[3] = (length - call.open.len()) as u64;
-            cells[4] = call.open.len() as u64;
+            row[1] = (length - call.open.len()) as u64;
+            row[2] = call.open.len() as u64;
         }
-        cells[5] = values.len() as u64;
-        cells[6..][..values.len()].copy_from_slice(&values);
-        assert_eq!(read(call.way, message), cells, "{call:?} as {message:02X?}");
+        row[3] = values.len() as u64;
+        row[4..][..values.len()].copy_from_slice(&values);
+        assert_eq!(read(call.way, message), Ok(row), "{call:?} as {message:02X?}");
         assert_eq!(
             message[length - call.open.len()..],
             call.open,

@@ -19,13 +19,14 @@ fn with_format(tally: &mut TableTally, datasets: usize, kind: u64) -> Trio {
 /// Hands out all datasets of a value.
 fn hand_out(trio: &mut Trio, tally: &mut TableTally, signs: &mut Signs, datasets: &[Vec<u8>]) {
     let message = value(datasets);
+    trio.hand_out_all(tally, Way::Up, &message);
     for (index, dataset) in datasets.iter().enumerate() {
-        let [refusal, place, kind, cell, port, mode, state, experiment] =
-            trio.hand_out(tally, Way::Up, &message, index);
         let name = format!("dataset {index} of {message:02X?}");
+        let handed_out = trio.hand_out(tally, Way::Up, &message, index);
+        let [kind, cell, port, mode, state, experiment] = handed_out.expect(&name);
         assert_eq!(
-            [refusal, place, kind, port, mode, state, experiment],
-            [0, 0, 0, PORT, MODE, 2, EXPERIMENT.into()],
+            [kind, port, mode, state, experiment],
+            [0, PORT, MODE, 2, EXPERIMENT.into()],
             "{name}"
         );
         // In C it is cast to int64_t.

@@ -1,10 +1,13 @@
 //! Tables that may not be sound, and sound ones that no list of messages has made in this order. Both programs judge
 //! them alike in every call, and a refused call changes nothing.
 
-use differential::{dataset_cells, format_cells, offer_answer, port_cells, LentTable, Random, TableTally, NOT_SOUND};
+use differential::{
+    dataset_cells, format_cells, offer_answer, port_cells, refused, values_cells, LentTable, Random, TableTally,
+    NOT_SOUND,
+};
 use yardstick::examples::SOUND;
 use yardstick::traffic::{compose, experiment, Scene, Traffic};
-use yardstick::{Form, Refusal, Table, TableCells, Way, RECORD_CELLS, TABLE_CELLS};
+use yardstick::{Form, Table, TableCells, Way, RECORD_CELLS, TABLE_CELLS};
 
 /// What a table is asked for and offered.
 struct Calls {
@@ -12,6 +15,13 @@ struct Calls {
     mode: u8,
     number: usize,
     messages: Vec<(Way, Vec<u8>, u16)>,
+}
+
+/// The ports of a table, ascending.
+fn ascending(table: &Table) -> Vec<u8> {
+    let mut ports: Vec<u8> = table.ports().collect();
+    ports.sort_unstable();
+    ports
 }
 
 /// Makes every call of the product on a table, and compares it with the second program.
@@ -31,6 +41,9 @@ fn compare(tally: &mut TableTally, cells: &[u32], calls: &Calls) {
     if let Ok(Some(_)) = answer {
         tally.count_format();
     }
+    let answer = expected.map(ascending).map_err(refused);
+    assert_eq!(product.ports(), answer, "{name}");
+    tally.count_ports(answer.map_or(0, |ports| ports.len()));
     for (way, message, experiment) in &calls.messages {
         let name = || format!("{message:02X?} {way:?} in experiment {experiment} with {cells:?}");
         let answer = expected.and_then(|table| table.hand_out(*way, message, number));
@@ -44,6 +57,9 @@ fn compare(tally: &mut TableTally, cells: &[u32], calls: &Calls) {
         if let (Ok(table), Ok(dataset)) = (expected, answer) {
             tally.count_dataset(table, &dataset);
         }
+        let answer = expected.and_then(|table| table.values(*way, message));
+        tally.count_whole(answer.as_ref().map(Vec::len).map_err(|&refusal| refusal));
+        assert_eq!(product.values(*way, message), values_cells(answer), "{}", name());
         let mut offered = product.clone();
         let answer = expected.and_then(|table| {
             let mut table = table.clone();
@@ -207,6 +223,8 @@ fn every_cell_changed() {
     tally.expect_offered(10..=16, 100);
     tally.expect_handed_out([9], 50_000);
     tally.expect_handed_out([0, 17], 1000);
+    tally.expect_whole([9], 50_000);
+    tally.expect_whole([0, 17], 1000);
     tally.expect_ports(200);
     tally.expect_numbers(50);
 }
@@ -239,23 +257,15 @@ fn experiment_numbers() {
             ] {
                 cells[start + NUMBER] = number;
                 let is_sound = number == 0 || was_asked && number < 65536;
-                let expected = if is_sound { 0 } else { 9 };
                 let name = format!("number {number} at place {place} of {cells:?}");
                 assert_eq!(Table::from_cells(&cells).is_ok(), is_sound, "{name}");
                 let mut product = LentTable::new(&cells);
                 let answer = product.port(cells[start + 1] as u8);
-                assert_eq!(answer[0], expected, "{name}");
+                assert_eq!(answer.is_ok(), is_sound, "{name}");
                 if is_sound && cells[start] != 0 {
-                    assert_eq!(answer[14], number.into(), "{name}");
+                    assert_eq!(answer.map(|cells| cells[13]), Ok(number.into()), "{name}");
                 }
-                assert_eq!(product.format(0, 0)[0], expected, "{name}");
-                assert_eq!(
-                    product.offer(Way::Down, &[0x03, 0x00, 0x12], 1),
-                    expected << 32,
-                    "{name}"
-                );
-                let dataset = product.dataset(Way::Down, &[0x03, 0x00, 0x12], 0);
-                assert_eq!(dataset[0], if is_sound { 17 } else { 9 }, "{name}");
+                expect_soundness(&mut product, is_sound, &name);
                 sound += u64::from(is_sound && number != 0);
                 unsound += u64::from(!is_sound);
             }
@@ -266,6 +276,27 @@ fn experiment_numbers() {
     assert!(sound >= 100 && unsound >= 500);
 }
 
+/// Makes every call on a table that is sound or not.
+fn expect_soundness(product: &mut LentTable, is_sound: bool, name: &str) {
+    let nothing = [0x03, 0x00, 0x12];
+    let offered = product.offer(Way::Down, &nothing, 1);
+    if is_sound {
+        assert_eq!(offered, 0, "{name}");
+        assert_eq!(product.dataset(Way::Down, &nothing, 0), Err(17 << 32), "{name}");
+        assert_eq!(product.values(Way::Down, &nothing), Err(17 << 32), "{name}");
+        assert!(product.port(1).is_ok(), "{name}");
+        assert!(product.format(1, 0).is_ok(), "{name}");
+        assert!(product.ports().is_ok(), "{name}");
+    } else {
+        assert_eq!(offered, NOT_SOUND, "{name}");
+        assert_eq!(product.dataset(Way::Down, &nothing, 0), Err(NOT_SOUND), "{name}");
+        assert_eq!(product.values(Way::Down, &nothing), Err(NOT_SOUND), "{name}");
+        assert_eq!(product.port(1), Err(NOT_SOUND), "{name}");
+        assert_eq!(product.format(1, 0), Err(NOT_SOUND), "{name}");
+        assert_eq!(product.ports(), Err(NOT_SOUND), "{name}");
+    }
+}
+
 /// The tables that are sound or not by hand, in every call.
 #[test]
 fn sound_examples() {
@@ -273,18 +304,7 @@ fn sound_examples() {
     for example in SOUND {
         let cells = example.cells();
         let mut product = LentTable::new(&cells);
-        let nothing = [0x03, 0x00, 0x12];
-        let expected = if example.is_sound { 0 } else { 9 };
-        assert_eq!(product.port(1)[0], expected, "{}", example.name);
-        assert_eq!(product.format(1, 0)[0], expected, "{}", example.name);
-        assert_eq!(
-            product.offer(Way::Down, &nothing, 1),
-            expected << 32,
-            "{}",
-            example.name
-        );
-        let dataset = product.dataset(Way::Down, &nothing, 0);
-        assert_eq!(dataset[0], if example.is_sound { 17 } else { 9 }, "{}", example.name);
+        expect_soundness(&mut product, example.is_sound, example.name);
         let calls = |port| Calls {
             port,
             mode: 1,
@@ -345,6 +365,7 @@ fn random_order_and_damage() {
     tally.expect_offered([0, 9], 10_000);
     tally.expect_offered(10..=16, 100);
     tally.expect_handed_out([0, 9, 17], 1000);
+    tally.expect_whole([0, 9, 17], 1000);
     tally.expect_ports(500);
     tally.expect_numbers(100);
 }
@@ -388,13 +409,14 @@ fn wrong_lengths() {
             let mut product = LentTable::new(&cells);
             let name = format!("{length} cells with {content}");
             assert_eq!(product.make_empty(), NOT_SOUND, "{name}");
-            assert_eq!(product.port(0)[..2], [9, 0], "{name}");
-            assert_eq!(product.format(0, 0)[..2], [9, 0], "{name}");
+            assert_eq!(product.port(0), Err(NOT_SOUND), "{name}");
+            assert_eq!(product.format(0, 0), Err(NOT_SOUND), "{name}");
+            assert_eq!(product.ports(), Err(NOT_SOUND), "{name}");
             for message in messages {
                 for way in Way::BOTH {
                     assert_eq!(product.offer(way, message, 1), NOT_SOUND, "{name}");
-                    let refused = dataset_cells(Err(Refusal::TABLE));
-                    assert_eq!(product.dataset(way, message, 0), refused, "{name}");
+                    assert_eq!(product.dataset(way, message, 0), Err(NOT_SOUND), "{name}");
+                    assert_eq!(product.values(way, message), Err(NOT_SOUND), "{name}");
                 }
             }
             assert_eq!(product.cells(), cells, "{name}");

@@ -34,6 +34,7 @@ fn table_examples() {
                     let message = bytes(message);
                     assert_eq!(product.dataset(way, &message, number), dataset_cells(answer), "{name}");
                     trio.hand_out(&mut tally, way, &message, number);
+                    trio.hand_out_all(&mut tally, way, &message);
                 }
                 TableStep::Port { port, answer } => {
                     assert_eq!(product.port(port), port_cells(Ok(answer)), "{name}");
@@ -44,7 +45,7 @@ fn table_examples() {
                 }
             }
         }
-        trio.compare_ports(&mut tally, 0..=255);
+        trio.compare_all_ports(&mut tally);
     }
     println!("{tally}");
     tally.expect_offered([0, 1, 4, 5, 7, 10, 11, 12, 14, 15, 16], 1);
@@ -85,11 +86,14 @@ fn seventeenth_attachment() {
     // 11 and 12 come before 13.
     expect(&mut product, &attach(15), Err(Refusal::PORT_PRESENT));
     expect(&mut product, &attach_virtual(16, 0, 0), Err(Refusal::PAIR));
-    assert_eq!(product.port(16), [0; PORT_CELLS]);
+    assert_eq!(product.port(16), Ok([0; PORT_CELLS]));
+    assert_eq!(product.ports(), Ok((0..16).collect()));
     expect(&mut product, &detach(5), Ok(()));
     expect(&mut product, &attach(16), Ok(()));
     expect(&mut product, &attach(17), Err(Refusal::FULL));
-    assert_ne!(product.port(16), [0; PORT_CELLS]);
+    assert!(product.port(16).is_ok_and(|cells| cells[0] == 1));
+    // Port 16 has taken the place of port 5, and comes last.
+    assert_eq!(product.ports(), Ok((0..=16).filter(|&port| port != 5).collect()));
 }
 
 /// The sixteenth record may be a virtual port's.
@@ -137,6 +141,7 @@ fn new_records_take_the_lowest_free_place() {
     let mut expected = [Some(5), None, Some(9), Some(2), Some(3), Some(7)].to_vec();
     expected.resize(16, None);
     assert_eq!(places(&product), expected);
+    assert_eq!(product.ports(), Ok(vec![2, 3, 5, 7, 9]));
     // The freed place equals one in an empty table.
     assert_eq!(product.cells()[RECORD_CELLS..][..RECORD_CELLS], [0; RECORD_CELLS]);
 }

@@ -11,7 +11,8 @@ fn lists(first_seed: u64, count: u64) -> impl Iterator<Item = (u64, Scene)> {
     (first_seed..first_seed + count).map(|seed| (seed, Scene::ALL[seed as usize % Scene::ALL.len()]))
 }
 
-/// Hands out some datasets of a message: the first, one of any number, the last one and the one after it.
+/// Hands out all datasets of a message, and some of them: the first, one of any number, the last one and the one after
+/// it.
 fn hand_out_some(trio: &mut Trio, tally: &mut TableTally, random: &mut Random, way: Way, message: &[u8]) {
     let port = message.get(3).copied().unwrap_or(0);
     let mode = trio.table().port(port).and_then(|it| it.answered).map(|it| it.mode);
@@ -20,6 +21,7 @@ fn hand_out_some(trio: &mut Trio, tally: &mut TableTally, random: &mut Random, w
     for number in [0, random.below(18), datasets - 1, datasets] {
         trio.hand_out(tally, way, message, number);
     }
+    trio.hand_out_all(tally, way, message);
 }
 
 /// Short lists, with all ports compared after every message.
@@ -34,13 +36,14 @@ fn short_lists() {
             let (way, message, experiment) = traffic.next(trio.table());
             hand_out_some(&mut trio, &mut tally, &mut random, way, &message);
             trio.offer(&mut tally, way, &message, experiment);
-            trio.compare_ports(&mut tally, 0..=255);
+            trio.compare_all_ports(&mut tally);
         }
     }
     println!("short lists: {tally}");
     tally.expect_offered([0], 1000);
     tally.expect_offered(10..=16, 30);
     tally.expect_handed_out(10..=18, 30);
+    tally.expect_whole((10..=18).filter(|&number| number != 13), 20);
     tally.expect_signs(100);
     tally.expect_ports(500);
     tally.expect_experiments(20);
@@ -63,7 +66,7 @@ fn long_lists() {
             let touched = trio.offer(&mut tally, way, &message, experiment);
             trio.compare_ports(&mut tally, touched);
             if step % 100 == 99 {
-                trio.compare_ports(&mut tally, 0..=255);
+                trio.compare_all_ports(&mut tally);
             }
         }
     }
@@ -74,6 +77,9 @@ fn long_lists() {
     tally.expect_handed_out([0], 20_000);
     tally.expect_handed_out(2..=7, 50);
     tally.expect_handed_out(10..=18, 1000);
+    tally.expect_whole([0, 10, 14, 15, 16, 18], 500);
+    tally.expect_every_number_of_datasets(20);
+    tally.expect_lists_of_ports(0..=16, 100);
     tally.expect_signs(5000);
     tally.expect_ports(5000);
     tally.expect_experiments(500);
@@ -117,12 +123,14 @@ fn unguided_lists() {
                 *port &= 0x83;
             }
             trio.hand_out(&mut tally, way, &message, 0);
+            trio.hand_out_all(&mut tally, way, &message);
             let touched = trio.offer(&mut tally, way, &message, experiment(&mut random));
             trio.compare_ports(&mut tally, touched);
         }
     }
     println!("unguided lists: {tally}");
     tally.expect_offered([0, 2, 3, 4, 5, 6, 7, 10], 50);
+    tally.expect_whole([2, 3, 4, 5, 6, 7, 10, 17], 50);
 }
 
 /// Messages about three ports: the third may be virtual, and the first is set up. Each has an experiment number of its

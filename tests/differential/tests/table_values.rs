@@ -50,6 +50,7 @@ fn every_format_and_size() {
                 let message = value(&bytes[..size]);
                 trio.offer(&mut tally, Way::Up, &message, size as u16);
                 trio.hand_out(&mut tally, Way::Up, &message, 0);
+                trio.hand_out_all(&mut tally, Way::Up, &message);
                 if size != datasets * width {
                     continue;
                 }
@@ -65,9 +66,13 @@ fn every_format_and_size() {
     tally.expect_offered([16], 64 * 122);
     tally.expect_handed_out([0], 4 * (1..=16).sum::<u64>() + 64);
     tally.expect_handed_out([17], 64 * 10);
+    tally.expect_whole([16], 64 * 122);
+    tally.expect_whole([0], 64);
+    tally.expect_every_number_of_datasets(4);
 }
 
-/// Floats of every sign and exponent as one of two datasets: only the one asked for is judged.
+/// Floats of every sign and exponent as one of two datasets: only the one asked for is judged, or both if the value is
+/// asked for as a whole.
 #[test]
 fn every_exponent() {
     const FRACTIONS: [u32; 8] = [0, 1, 2, 0x00_8000, 0x3F_FFFF, 0x40_0000, 0x40_0001, 0x7F_FFFF];
@@ -82,6 +87,7 @@ fn every_exponent() {
                 for number in 0..3 {
                     trio.hand_out(&mut tally, Way::Up, &message, number);
                 }
+                trio.hand_out_all(&mut tally, Way::Up, &message);
             }
         }
     }
@@ -92,6 +98,9 @@ fn every_exponent() {
     tally.expect_handed_out([0], values / 2 + values * 510 / 512);
     tally.expect_handed_out([18], values / 2 + values * 2 / 512);
     tally.expect_handed_out([17], values);
+    // As a whole the value is refused if one of the two isn't finite.
+    tally.expect_whole([0], values / 2 * 510 / 512);
+    tally.expect_whole([18], values - values / 2 * 510 / 512);
 }
 
 /// Whole numbers with every value of a byte at every place.
@@ -109,12 +118,14 @@ fn every_byte() {
                 for number in 0..3 {
                     trio.hand_out(&mut tally, Way::Up, &message, number);
                 }
+                trio.hand_out_all(&mut tally, Way::Up, &message);
             }
         }
     }
     println!("every byte: {tally}");
     tally.expect_handed_out([0], 3 * 256 * (3 + 6 + 12));
     tally.expect_signs(4000);
+    tally.expect_whole([0], 256 * (3 + 6 + 12));
 }
 
 /// Every experiment number, carried by a value in state 2 and by none in states 1 and 3.

@@ -1,8 +1,7 @@
 //! Both programs write every message as it is written out by hand, and refuse those that are refused by hand.
 
-use differential::{write, Call, WriteTally, OUTPUT};
+use differential::{refused, write, Call, WriteTally, OUTPUT};
 use yardstick::examples::{FORMS, WRITING};
-use yardstick::Refusal;
 
 const FILLING: u8 = 0xA5;
 
@@ -13,7 +12,7 @@ fn form_examples() {
         let bytes = example.bytes();
         let call = Call::writing(example.way, &bytes).expect("the examples of forms are accepted");
         let mut output = [FILLING; OUTPUT];
-        let length = write(call.way, &call.cells(), &call.open, &mut output);
+        let length = write(call.way, &call.row(), &call.open, &mut output);
         let name = format!("`{}` {:?}", example.message, example.way);
         assert_eq!(length, bytes.len() as u64, "{name}");
         assert_eq!(output[..bytes.len()], bytes, "{name}");
@@ -36,13 +35,12 @@ fn writing_examples() {
             output: example.output,
         };
         let mut output = vec![FILLING; call.output];
-        let answer = write(call.way, &call.cells(), &call.open, &mut output);
-        let Refusal { number, place } = example.refusal;
-        assert_eq!(answer, u64::from(number) << 32 | place as u64, "{call:?}");
+        let answer = write(call.way, &call.row(), &call.open, &mut output);
+        assert_eq!(answer, refused(example.refusal), "{call:?}");
         assert_eq!(output, vec![FILLING; call.output], "{call:?}");
         tally.compare(&call);
     }
     println!("examples of refused writing: {tally}");
-    tally.expect_numbers([5, 6, 7, 8], 4);
+    tally.expect_numbers([5, 6, 7, 8, 255], 4);
     assert_eq!(tally.seen(0), 0);
 }

@@ -99,7 +99,7 @@ fn all_edges() {
         });
     }
     println!("all edges: {tally}");
-    tally.expect_forms([0, 5, 6, 7], 1);
+    tally.expect_forms([0, 5, 6], 1);
     tally.expect_numbers([0, 5, 6, 7], 10_000);
 }
 
@@ -138,7 +138,8 @@ fn every_pair_of_selectors() {
     ] {
         assert_eq!(tally.seen_for(form, 0), pairs, "{form:?}");
     }
-    tally.expect_numbers([7, 255], 100_000);
+    assert_eq!(tally.seen(0) + tally.seen(6) + tally.seen(7), tally.calls());
+    tally.expect_numbers([7], 100_000);
 }
 
 /// Numbers of one bit, of all bits below it, and their complements, for every value of every form.
@@ -158,7 +159,7 @@ fn every_width() {
         }
     }
     println!("every width: {tally}");
-    tally.expect_forms([255], 100);
+    tally.expect_forms([7, 255], 50);
     tally.expect_numbers([0, 5, 7], 1000);
 }
 

@@ -1,113 +1,143 @@
-//! The edges of the writer's C interface: cells that are no message, cells that aren't looked at, and the way.
+//! The edges of writing: rows that are too short or have no form, cells that aren't looked at, and the way.
 
 use differential::{
-    castanetash_write, outside, read, valid_calls, write, Call, Cells, WriteTally, CELLS, NO_MESSAGE, OUTPUT,
+    castanetash_write, number, outside, read, valid_calls, Call, Lent, WriteTally, OUTPUT, ROW_CELLS, TOO_SHORT,
 };
-use yardstick::{encode, Form, Message, Way};
+use yardstick::{encode, Form, Kind, Message, Way};
 
-const FILLING: [u8; OUTPUT] = [0xA5; OUTPUT];
-
-/// Writes cells as they are. Gives the answer and the output.
-fn written(way: u8, cells: &[u64], open: &[u8]) -> (u64, [u8; OUTPUT]) {
-    let mut output = FILLING;
-    let answer = castanetash_write(cells, way, open, &mut output);
-    (answer, output)
+/// Writes a row as it is. Gives the answer and the output. A refusal has to leave the output alone, and no call may
+/// change the row or the open bytes.
+fn written(way: u8, row: &[u64], open: &[u8]) -> (u64, Vec<u8>) {
+    let name = format!("{row:X?}, way {way}, open bytes {open:02X?}");
+    let (mut row, mut open, mut output) = (Lent::holding(row), Lent::holding(open), Lent::filled(OUTPUT));
+    let answer = castanetash_write(row.lend(), way, open.lend(), output.lend());
+    row.expect_unchanged(&name);
+    open.expect_unchanged(&name);
+    if number(answer) != 0 {
+        output.expect_unchanged(&name);
+    }
+    output.expect(&output.contents()[..OUTPUT.min(answer as u32 as usize)], &name);
+    (answer, output.contents().to_vec())
 }
 
 /// What writing a valid call has to give.
-fn expected(call: &Call) -> (u64, [u8; OUTPUT]) {
+fn expected(call: &Call) -> (u64, Vec<u8>) {
     let message = Message::new(call.form, &call.values).expect("a valid call");
     let bytes = encode(call.way, message, &call.open).expect("a valid call");
-    let mut output = FILLING;
+    let mut output = Lent::filled(OUTPUT).contents().to_vec();
     output[..bytes.len()].copy_from_slice(&bytes);
     (bytes.len() as u64, output)
+}
+
+/// What has to be given where nothing is written.
+fn nothing(answer: u64) -> (u64, Vec<u8>) {
+    (answer, Lent::filled(OUTPUT).contents().to_vec())
 }
 
 fn way_byte(way: Way) -> u8 {
     u8::from(way == Way::Up)
 }
 
+/// A row that is too short is refused before anything else is looked at: the way, the form, the open bytes, the output.
 #[test]
-fn fewer_cells_are_no_message_and_more_are_not_looked_at() {
+fn fewer_cells_are_no_row_and_more_are_not_looked_at() {
+    let mut tally = WriteTally::default();
     for call in valid_calls() {
-        let mut cells = call.cells().to_vec();
-        cells.extend([u64::MAX; 12]);
-        for length in 0..=cells.len() {
-            let outcome = written(way_byte(call.way), &cells[..length], &call.open);
-            let right = if length < CELLS {
-                (NO_MESSAGE, FILLING)
+        let mut row = call.row().to_vec();
+        row.extend([u64::MAX; 12]);
+        for length in 0..=row.len() {
+            let outcome = written(way_byte(call.way), &row[..length], &call.open);
+            let right = if length < ROW_CELLS {
+                nothing(TOO_SHORT)
             } else {
                 expected(&call)
             };
             assert_eq!(outcome, right, "{call:?}, {length} cells");
+            for way in Way::BOTH {
+                for output in [0, OUTPUT] {
+                    let answer = tally.compare_row(way, &row[..length], b"xyz", output);
+                    assert_eq!(answer == TOO_SHORT, length < ROW_CELLS, "{call:?}, {length} cells");
+                }
+            }
         }
     }
+    println!("rows of every length: {tally}");
+    tally.expect_numbers([5, 6, 255], 500);
 }
 
 #[test]
 fn other_forms_are_no_message() {
     let numbers = (34..=600).chain([0, 1 << 16, u32::MAX.into(), u64::MAX]);
     let wide = (1..=33).flat_map(|form| [8, 16, 32, 63].map(|bit| 1 << bit | form));
-    for number in numbers.chain(wide) {
+    for form in numbers.chain(wide) {
         for way in [0, 1] {
-            // Cells of zeros, which are the values of more than one form.
-            let mut cells: Cells = [0; CELLS];
-            cells[2] = number;
-            assert_eq!(written(way, &cells, b""), (NO_MESSAGE, FILLING), "form {number}");
-            assert_eq!(
-                castanetash_write(&cells, way, b"x", &mut []),
-                NO_MESSAGE,
-                "form {number}"
-            );
+            // Values of zeros, which are those of more than one form.
+            let mut row = [0; ROW_CELLS];
+            row[0] = form;
+            for open in [&b""[..], b"x", &[b'x'; 200]] {
+                assert_eq!(written(way, &row, open), nothing(TOO_SHORT), "form {form}");
+                assert_eq!(castanetash_write(&row, way, open, &mut []), TOO_SHORT, "form {form}");
+            }
         }
     }
 }
 
-/// Each value in turn outside its kind. Nothing else is judged before: neither way, nor open bytes, nor output.
+/// Each value in turn outside its kind: what the answer is hangs on the field, and the way comes first.
 #[test]
-fn values_that_are_no_message() {
+fn values_outside_their_kind() {
     let mut tally = WriteTally::default();
+    let [mut fixed, mut wide] = [0, 0];
     for valid in valid_calls() {
         for (index, &kind) in valid.form.kinds().iter().enumerate() {
-            for number in outside(kind) {
+            for value in outside(kind) {
                 for way in Way::BOTH {
                     for open in [&valid.open[..], b"", &[b'x'; 200]] {
                         for output in [OUTPUT, 0] {
-                            let mut call = Call {
-                                way,
-                                open: open.to_vec(),
-                                output,
-                                ..valid.clone()
-                            };
-                            call.values[index] = number;
-                            assert_eq!(
-                                write(way, &call.cells(), open, &mut FILLING.clone()),
-                                NO_MESSAGE,
-                                "{call:?}"
-                            );
-                            tally.compare(&call);
+                            let mut call = valid.clone();
+                            call.values[index] = value;
+                            let answer = tally.compare_row(way, &call.row(), open, output);
+                            if way != valid.way || open != valid.open || is_past_count(&valid, index) {
+                                continue;
+                            }
+                            // All else is right, so this value is what is refused. A selector is refused as such.
+                            match kind {
+                                Kind::Fixed(_) => {
+                                    assert_eq!(number(answer), 7, "{call:?}");
+                                    fixed += 1;
+                                }
+                                _ => {
+                                    assert!(matches!(number(answer), 6 | 7 | 255), "{call:?}");
+                                    wide += 1;
+                                }
+                            }
                         }
                     }
                 }
             }
         }
     }
-    println!("values that are no message: {tally}");
-    assert_eq!(tally.seen(255), tally.calls());
-    tally.expect_forms([255], 12);
+    println!("values outside their kind: {fixed} selectors that the form decides, {wide} others\n{tally}");
+    assert!(fixed >= 100 && wide >= 1000);
+    tally.expect_forms([7, 255], 4);
+    tally.expect_numbers([5, 6, 7, 255], 500);
 }
 
-/// The cells of refusal, open bytes and count, and those past the values, may hold anything.
+/// Whether a value is an entry of a 43 past its count.
+fn is_past_count(call: &Call, index: usize) -> bool {
+    call.form == Form::PortCombinations && index >= 3 + call.values[2] as usize
+}
+
+/// The cells of open bytes and count, and those past the values, may hold anything.
 #[test]
 fn other_cells_are_not_looked_at() {
     let mut calls = 0;
     for call in valid_calls() {
-        let used = 6..6 + call.form.kinds().len();
-        for cell in (0..CELLS).filter(|cell| *cell != 2 && !used.contains(cell)) {
-            for number in [0, 1, 7, 20, 255, 1 << 32, u64::MAX] {
-                let mut cells = call.cells();
-                cells[cell] = number;
-                let outcome = written(way_byte(call.way), &cells, &call.open);
+        let used = 4..4 + call.form.kinds().len();
+        for cell in (1..ROW_CELLS).filter(|cell| !used.contains(cell)) {
+            for number in [0, 1, 7, 16, 255, 1 << 32, u64::MAX] {
+                let mut row = call.row();
+                row[cell] = number;
+                let outcome = written(way_byte(call.way), &row, &call.open);
                 assert_eq!(outcome, expected(&call), "{call:?}, {number} in cell {cell}");
                 calls += 1;
             }
@@ -135,26 +165,26 @@ fn way_0_is_down_and_any_other_up() {
         let mut answers = Vec::new();
         for way in Way::BOTH {
             call.way = way;
-            answers.push(written(way_byte(way), &call.cells(), b""));
+            answers.push(written(way_byte(way), &call.row(), b""));
             WriteTally::default().compare(&call);
         }
         assert_ne!(answers[0], answers[1], "{form:?} each way");
         for way in 0..=255 {
-            let outcome = written(way, &call.cells(), b"");
+            let outcome = written(way, &call.row(), b"");
             assert_eq!(outcome, answers[usize::from(way != 0)], "{form:?}, way {way}");
         }
     }
 }
 
-/// The cells that reading fills are those that writing takes.
+/// The row that reading fills is the one that writing takes.
 #[test]
-fn cells_go_through_as_they_are() {
+fn rows_go_through_as_they_are() {
     for call in valid_calls() {
         let (length, output) = expected(&call);
         let message = &output[..length as usize];
-        let cells = read(call.way, message);
+        let row = read(call.way, message).expect("a valid call's message");
         assert_eq!(
-            written(way_byte(call.way), &cells, &call.open),
+            written(way_byte(call.way), &row, &call.open),
             (length, output),
             "{call:?}"
         );

@@ -13,7 +13,7 @@ fn near_calls() {
     tally.expect_numbers([0], 1_000_000);
     tally.expect_numbers([5, 6, 7, 8, 255], 30_000);
     tally.expect_forms([0], 10_000);
-    tally.expect_forms([5, 6, 7, 8], 400);
+    tally.expect_forms([5, 6, 7, 8, 255], 200);
 }
 
 #[test]
@@ -27,5 +27,5 @@ fn any_calls() {
     tally.expect_numbers([0, 5, 6, 7, 8], 50_000);
     tally.expect_forms([0], 50);
     tally.expect_forms([6], 10);
-    tally.expect_forms([5, 7], 5000);
+    tally.expect_forms([5, 7], 4000);
 }

@@ -115,4 +115,10 @@ impl Form {
     pub const fn number(self) -> u8 {
         self as u8
     }
+
+    /// The form of a number, if there is one.
+    pub fn of_number(number: u64) -> Option<Form> {
+        let index = usize::try_from(number).ok()?.checked_sub(1)?;
+        Form::ALL.get(index).copied()
+    }
 }

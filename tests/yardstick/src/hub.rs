@@ -36,7 +36,7 @@ pub(crate) fn alert_update(mut fields: Fields) -> Result<Decoded, Refusal> {
 pub(crate) fn attached_io(mut fields: Fields) -> Result<Decoded, Refusal> {
     fields.selectors_up_to(4)?;
     fields.port();
-    let event = fields.byte_of(|event| matches!(event, 0..=2))?;
+    let event = fields.byte_of(lists::is_event)?;
     match event {
         0 => {
             fields.size_is(5)?;

@@ -1,6 +1,6 @@
 use crate::form::Form;
 
-/// What a value of a form is, before any list is looked at.
+/// What a value of a form is in a message that was read, before any list is looked at.
 #[derive(Clone, Copy, Debug, PartialEq, Eq)]
 pub enum Kind {
     /// The one value of a selector that the form decides.

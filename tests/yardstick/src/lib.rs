@@ -1,8 +1,8 @@
 //! A second program by the rules of the product, written from the documents alone.
 //!
-//! [`decode`] reads one message of LEGO Wireless Protocol 3.0, and [`encode`] writes one. [`Table`] is a port table for
-//! one hub, [`MessageList`] the reader without a table, and [`read_log`] the log reader. The tests in `differential`
-//! compare their answers with those of the product. [`traffic`] and [`make_log`] make messages and logs to try them
+//! [`decode`] reads one message of LEGO Wireless Protocol 3.0, and [`encode`] writes one; [`write_row`] does it by the
+//! numbers of a row. [`Table`] is a port table for one hub, [`MessageList`] the reader without a table, and [`read_log`]
+//! the log reader. The tests in `differential` compare their answers with those of the product. [`traffic`] and [`make_log`] make messages and logs to try them
 //! with.
 
 mod answer;
@@ -26,6 +26,7 @@ mod mode_information;
 mod port;
 mod random;
 mod refusal;
+mod row;
 mod table;
 mod tableless;
 pub mod traffic;
@@ -39,10 +40,11 @@ pub use encode::{encode, encode_to};
 pub use experiment_tally::{ExperimentTally, Offered};
 pub use form::Form;
 pub use kind::Kind;
-pub use log::{log_message, log_record, read_log, LOG_RECORD};
+pub use log::{log_message, log_record, read_block, read_log, LINE_ROOM, LOG_RECORD};
 pub use message::Message;
 pub use random::Random;
 pub use refusal::Refusal;
+pub use row::{write_row, Row, ROW_CELLS};
 pub use table::{PortValue, Step, Table, TableCells, PLACES, RECORD_CELLS, TABLE_CELLS};
 pub use tableless::MessageList;
 pub use way::Way;

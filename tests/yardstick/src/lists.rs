@@ -83,6 +83,11 @@ pub(crate) fn is_alert_status(status: u8) -> bool {
     matches!(status, 0x00 | 0xFF)
 }
 
+/// The events of a port: detached, attached, attached as a virtual one.
+pub(crate) fn is_event(event: u8) -> bool {
+    event <= 2
+}
+
 pub(crate) fn is_error(error: u8) -> bool {
     matches!(error, 1..=8)
 }
@@ -90,6 +95,11 @@ pub(crate) fn is_error(error: u8) -> bool {
 /// The information types that a port is asked for.
 pub(crate) fn is_port_information_type(information_type: u8) -> bool {
     information_type <= 2
+}
+
+/// The information types that a port tells: its modes, and their combinations.
+pub(crate) fn is_port_information(information_type: u8) -> bool {
+    matches!(information_type, 1 | 2)
 }
 
 pub(crate) fn is_port_capabilities(capabilities: u8) -> bool {
@@ -129,4 +139,9 @@ pub(crate) fn is_dataset_kind(kind: u8) -> bool {
 
 pub(crate) fn is_notify(notify: u8) -> bool {
     notify <= 1
+}
+
+/// The subs of a virtual port's setup: disconnect and connect.
+pub(crate) fn is_sub(sub: u8) -> bool {
+    sub <= 1
 }

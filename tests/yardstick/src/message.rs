@@ -1,7 +1,7 @@
 use crate::form::Form;
 
-/// A message to be written: a form and its values, left to right, selectors included. Each value is of its kind; lists
-/// aren't looked at before writing.
+/// A message to be written: a form and its values, left to right, selectors included. The values may be any numbers;
+/// writing judges them.
 #[derive(Clone, Copy, Debug)]
 pub struct Message<'a> {
     form: Form,
@@ -9,12 +9,9 @@ pub struct Message<'a> {
 }
 
 impl<'a> Message<'a> {
-    /// The message of a form and its values, unless their number is another or one of them isn't of its kind.
+    /// The message of a form and its values, unless their number is another.
     pub fn new(form: Form, values: &'a [u64]) -> Option<Message<'a>> {
-        let kinds = form.kinds();
-        let is_message =
-            values.len() == kinds.len() && kinds.iter().zip(values).all(|(kind, &value)| kind.holds(value));
-        is_message.then_some(Message { form, values })
+        (values.len() == form.kinds().len()).then_some(Message { form, values })
     }
 
     pub(crate) fn form(&self) -> Form {
@@ -23,10 +20,5 @@ impl<'a> Message<'a> {
 
     pub(crate) fn values(&self) -> &'a [u64] {
         self.values
-    }
-
-    /// A value that is a byte: a selector, or the count of a 43.
-    pub(crate) fn byte(&self, index: usize) -> u8 {
-        u8::try_from(self.values[index]).expect("selectors and counts are bytes")
     }
 }

@@ -16,7 +16,7 @@ pub(crate) fn information_request(mut fields: Fields) -> Result<Decoded, Refusal
 pub(crate) fn information(mut fields: Fields) -> Result<Decoded, Refusal> {
     fields.selectors_up_to(4)?;
     fields.port();
-    let information_type = fields.byte_of(|it| matches!(it, 1 | 2))?;
+    let information_type = fields.byte_of(lists::is_port_information)?;
     if information_type == 1 {
         modes(fields)
     } else {
@@ -85,7 +85,7 @@ fn setup(mut fields: Fields, form: Form) -> Result<Decoded, Refusal> {
 /// Virtual Port Setup, 61.
 pub(crate) fn virtual_setup(mut fields: Fields) -> Result<Decoded, Refusal> {
     fields.selectors_up_to(3)?;
-    let sub = fields.byte_of(|sub| sub <= 1)?;
+    let sub = fields.byte_of(lists::is_sub)?;
     if sub == 0 {
         fields.size_is(5)?;
         fields.port();

@@ -44,6 +44,9 @@ impl Refusal {
     pub const NOT_FINITE: Refusal = Refusal::new(18, 0);
     /// A log record is malformed.
     pub const LOG_RECORD: Refusal = Refusal::new(19, 0);
+    /// The one number that isn't in the list of refusals: the cells lent for an answer are too few, or the row given to
+    /// writing is no message's own.
+    pub const ROW: Refusal = Refusal::new(255, 0);
 
     /// The field that starts at `place` is outside its list.
     pub const fn field(place: usize) -> Refusal {

@@ -31,6 +31,27 @@ impl Both {
         self.numbers[usize::from(number)] += 1;
     }
 
+    fn values(&mut self, way: Way, message: &[u8]) {
+        let answer = self.table.values(way, message);
+        let by_list = self.list.values(way, message);
+        assert_eq!(by_list, answer, "values of {message:02X?} {way:?}");
+        // They are the datasets that are handed out one by one.
+        match answer {
+            Ok(datasets) => {
+                for (number, &dataset) in datasets.iter().enumerate() {
+                    assert_eq!(self.table.hand_out(way, message, number), Ok(dataset));
+                }
+                let next = self.table.hand_out(way, message, datasets.len());
+                assert_eq!(next, Err(Refusal::NO_DATASET));
+            }
+            Err(Refusal::NOT_FINITE) => {
+                let refused = |number| self.table.hand_out(way, message, number) == Err(Refusal::NOT_FINITE);
+                assert!((0..16).any(refused), "values of {message:02X?} {way:?}");
+            }
+            Err(refusal) => assert_eq!(self.table.hand_out(way, message, 0), Err(refusal)),
+        }
+    }
+
     fn hand_out(&mut self, way: Way, message: &[u8], number: usize) {
         let answer = self.table.hand_out(way, message, number);
         let by_list = self.list.hand_out(way, message, number);
@@ -46,6 +67,7 @@ impl Both {
         for number in [0, 1, 15] {
             self.hand_out(way, message, number);
         }
+        self.values(way, message);
         let before = self.table.clone();
         let answer = self.table.offer(way, message, experiment);
         let by_list = self.list.push(way, message, experiment);
@@ -62,6 +84,9 @@ impl Both {
     }
 
     fn compare_ports(&self, ports: impl Iterator<Item = u8>) {
+        let mut present: Vec<u8> = self.table.ports().collect();
+        present.sort_unstable();
+        assert!(self.list.ports().eq(present), "the ports present");
         for port in ports {
             assert_eq!(self.list.port(port), self.table.port(port), "port {port}");
             for mode in 0..=16 {
@@ -115,6 +140,7 @@ fn long_lists() {
             both.offer(way, &message, experiment);
             let (way, message) = traffic.value(&both.table);
             both.hand_out(way, &message, step % 3);
+            both.values(way, &message);
             if step % 50 == 0 {
                 both.compare_ports(0..=255);
             }

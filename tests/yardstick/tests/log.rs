@@ -3,7 +3,8 @@
 use std::io::{self, Read, Write};
 
 use yardstick::examples::{bytes, LOGS};
-use yardstick::{log_record, read_log, Way, LOG_RECORD};
+use yardstick::make_log::{bench_log, every_log};
+use yardstick::{log_record, read_block, read_log, Random, Table, Way, LINE_ROOM, LOG_RECORD};
 
 fn printed(log: &[u8]) -> String {
     let mut output = Vec::new();
@@ -195,4 +196,64 @@ fn floats() {
         "1 0\n2 0\n3 0\n4 0 255 15 0 0 3212836864 2139095039\n5 18\n6 18\n7 0\n8 0 255 15 1 0 0 2147483648\n\
          9 0\n10 0 255 15 2 9 0 2147483648\ntotal 10 refused 2\n"
     );
+}
+
+/// A log of 400 records, some of them values.
+fn made_log(seed: u64) -> Vec<u8> {
+    let mut log = Vec::new();
+    if seed % 2 == 0 {
+        bench_log(seed, 400, &mut log).expect("writing to memory");
+    } else {
+        every_log(seed, 400, &mut log).expect("writing to memory");
+    }
+    log
+}
+
+/// The lines of blocks of any sizes, one after the other, are those of the whole log.
+#[test]
+fn blocks() {
+    let mut random = Random::new(5);
+    for seed in 0..20 {
+        let log = made_log(seed);
+        let (mut table, mut totals, mut text, mut taken) = (Table::default(), [0, 0], Vec::new(), 0);
+        while taken < log.len() {
+            let end = log.len().min(taken + random.below(20 * LOG_RECORD));
+            let room = random.below(6 * LINE_ROOM);
+            let lines = read_block(&mut table, &mut totals, &log[taken..end], room);
+            assert!(lines.len() <= room);
+            taken += lines.iter().filter(|&&byte| byte == b'\n').count() * LOG_RECORD;
+            text.extend(lines);
+        }
+        text.extend(format!("total {} refused {}\n", totals[0], totals[1]).bytes());
+        assert_eq!(String::from_utf8_lossy(&text), printed(&log), "seed {seed}");
+    }
+}
+
+/// A block ends where there is no room for another line, or a total can't count one more.
+#[test]
+fn ends_of_blocks() {
+    let log = [log_record(0, Way::Down, &[0x03, 0x00, 0x12], 7); 4].concat();
+    let most = u64::MAX;
+    for (totals, room, text, after) in [
+        ([0, 0], LINE_ROOM - 1, String::new(), [0, 0]),
+        ([0, 0], LINE_ROOM, "1 0\n".to_owned(), [1, 0]),
+        ([0, 0], LINE_ROOM + 3, "1 0\n".to_owned(), [1, 0]),
+        ([0, 0], LINE_ROOM + 4, "1 0\n2 0\n".to_owned(), [2, 0]),
+        ([8, 3], 2000, "9 0\n10 0\n11 0\n12 0\n".to_owned(), [12, 3]),
+        ([most - 2, 0], 2000, format!("{} 0\n{most} 0\n", most - 1), [most, 0]),
+        ([most, 0], 2000, String::new(), [most, 0]),
+        ([0, most], 2000, String::new(), [0, most]),
+    ] {
+        let mut counted = totals;
+        let lines = read_block(&mut Table::default(), &mut counted, &log, room);
+        assert_eq!(String::from_utf8_lossy(&lines), text, "{totals:?}, room {room}");
+        assert_eq!(counted, after, "{totals:?}, room {room}");
+    }
+    // The third record is refused, and with it the total can count no more.
+    let mut log = log;
+    log[2 * LOG_RECORD + 4] = 2;
+    let mut totals = [0, most - 1];
+    let lines = read_block(&mut Table::default(), &mut totals, &log, 2000);
+    assert_eq!(String::from_utf8_lossy(&lines), "1 0\n2 0\n3 19\n");
+    assert_eq!(totals, [3, most]);
 }

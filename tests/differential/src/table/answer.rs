@@ -1,75 +1,67 @@
-//! Answers of the second program as the C interface lays them out.
+//! Answers of the second program as the product lays them out.
 
 use yardstick::{Dataset, Format, Port, Refusal, Setup, Value, Wiring};
 
-/// How many cells the answer has when a dataset is handed out.
-pub const DATASET_CELLS: usize = 8;
+use crate::answer::{answer, refused, Filled};
+use crate::castanetash::{DATASET_CELLS, FORMAT_CELLS, MOST_DATASETS, PORT_CELLS};
 
-/// How many cells the answer about a port has.
-pub const PORT_CELLS: usize = 15;
-
-/// How many cells the answer about a format has.
-pub const FORMAT_CELLS: usize = 6;
-
-/// The answer to every offering if the table isn't sound.
-pub const NOT_SOUND: u64 = 9 << 32;
+/// The most cells that all datasets of a value have.
+pub const MOST_VALUES_CELLS: usize = MOST_DATASETS * DATASET_CELLS;
 
 /// The answer to an offered message.
-pub fn offer_answer(answer: Result<(), Refusal>) -> u64 {
-    match answer {
-        Ok(()) => 0,
-        Err(refusal) => u64::from(refusal.number) << 32 | refusal.place as u64,
+pub fn offer_answer(offered: Result<(), Refusal>) -> u64 {
+    answer(offered.map(|()| 0))
+}
+
+/// Kind of value, value, port, mode, state, experiment number.
+pub fn dataset_cells(handed_out: Result<Dataset, Refusal>) -> Filled<DATASET_CELLS> {
+    handed_out.map(cells_of).map_err(refused)
+}
+
+/// The same of all datasets, one after the other.
+pub fn values_cells(handed_out: Result<Vec<Dataset>, Refusal>) -> Result<Vec<u64>, u64> {
+    match handed_out {
+        Ok(datasets) => Ok(datasets.into_iter().flat_map(cells_of).collect()),
+        Err(refusal) => Err(refused(refusal)),
     }
 }
 
-/// Refusal number, place, kind of value, value, port, mode, state, experiment number. A whole number is in two's
-/// complement of 64 bits.
-pub fn dataset_cells(answer: Result<Dataset, Refusal>) -> [u64; DATASET_CELLS] {
-    match answer {
-        Err(refusal) => [refusal.number.into(), refusal.place as u64, 0, 0, 0, 0, 0, 0],
-        Ok(dataset) => {
-            let (kind, value) = match dataset.value {
-                Value::Whole(number) => (0, i64::from(number) as u64),
-                Value::Float(bits) => (1, bits.into()),
-            };
-            [
-                0,
-                0,
-                kind,
-                value,
-                dataset.port.into(),
-                dataset.mode.into(),
-                dataset.state.number().into(),
-                dataset.experiment.into(),
-            ]
-        }
-    }
+/// A whole number is in two's complement of 64 bits.
+fn cells_of(dataset: Dataset) -> [u64; DATASET_CELLS] {
+    let (kind, value) = match dataset.value {
+        Value::Whole(number) => (0, i64::from(number) as u64),
+        Value::Float(bits) => (1, bits.into()),
+    };
+    [
+        kind,
+        value,
+        dataset.port.into(),
+        dataset.mode.into(),
+        dataset.state.number().into(),
+        dataset.experiment.into(),
+    ]
 }
 
-/// Refusal number, wiring, device, partner, second member, state, then whether something was asked, its mode, delta and
-/// notify, then the same of the answer, then the experiment number.
-pub fn port_cells(answer: Result<Option<Port>, Refusal>) -> [u64; PORT_CELLS] {
+/// Wiring, device, partner, second member, state, then whether something was asked, its mode, delta and notify, then the
+/// same of the answer, then the experiment number. All is 0 for an absent port.
+pub fn port_cells(asked: Result<Option<Port>, Refusal>) -> Filled<PORT_CELLS> {
     let mut cells = [0; PORT_CELLS];
-    match answer {
-        Err(refusal) => cells[0] = refusal.number.into(),
-        Ok(None) => {}
-        Ok(Some(port)) => {
-            let [wiring, partner, second] = match port.wiring {
-                Wiring::Unjoined => [1, 0, 0],
-                Wiring::Joined { virtual_port } => [2, virtual_port, 0],
-                Wiring::Virtual { port_a, port_b } => [3, port_a, port_b],
-            };
-            cells[1] = wiring.into();
-            cells[2] = port.device.into();
-            cells[3] = partner.into();
-            cells[4] = second.into();
-            cells[5] = port.state.number().into();
-            cells[6..10].copy_from_slice(&setup_cells(port.asked));
-            cells[10..14].copy_from_slice(&setup_cells(port.answered));
-            cells[14] = port.experiment.into();
-        }
+    if let Some(port) = asked.map_err(refused)? {
+        let [wiring, partner, second] = match port.wiring {
+            Wiring::Unjoined => [1, 0, 0],
+            Wiring::Joined { virtual_port } => [2, virtual_port, 0],
+            Wiring::Virtual { port_a, port_b } => [3, port_a, port_b],
+        };
+        cells[0] = wiring.into();
+        cells[1] = port.device.into();
+        cells[2] = partner.into();
+        cells[3] = second.into();
+        cells[4] = port.state.number().into();
+        cells[5..9].copy_from_slice(&setup_cells(port.asked));
+        cells[9..13].copy_from_slice(&setup_cells(port.answered));
+        cells[13] = port.experiment.into();
     }
-    cells
+    Ok(cells)
 }
 
 fn setup_cells(setup: Option<Setup>) -> [u64; 4] {
@@ -79,18 +71,16 @@ fn setup_cells(setup: Option<Setup>) -> [u64; 4] {
     }
 }
 
-/// Refusal number, whether the format is known, datasets, kind, figures, decimals.
-pub fn format_cells(answer: Result<Option<Format>, Refusal>) -> [u64; FORMAT_CELLS] {
-    match answer {
-        Err(refusal) => [refusal.number.into(), 0, 0, 0, 0, 0],
-        Ok(None) => [0; FORMAT_CELLS],
-        Ok(Some(format)) => [
-            0,
+/// Whether the format is known, datasets, kind, figures, decimals.
+pub fn format_cells(asked: Result<Option<Format>, Refusal>) -> Filled<FORMAT_CELLS> {
+    Ok(match asked.map_err(refused)? {
+        None => [0; FORMAT_CELLS],
+        Some(format) => [
             1,
             format.datasets.into(),
             format.kind.into(),
             format.figures.into(),
             format.decimals.into(),
         ],
-    }
+    })
 }

@@ -11,6 +11,12 @@ const NUMBERS: usize = 20;
 pub struct TableTally {
     offered: [u64; NUMBERS],
     handed_out: [u64; NUMBERS],
+    /// Answers to values as a whole.
+    whole: [u64; NUMBERS],
+    /// Values that were handed out as a whole, by how many datasets they have.
+    by_datasets: [u64; 17],
+    /// Lists of ports, by how many they have.
+    by_ports: [u64; 17],
     /// Whole numbers that aren't negative, negative ones, and floats.
     values: [u64; 3],
     /// Ports that were absent, unjoined, joined, virtual.
@@ -31,6 +37,19 @@ impl TableTally {
     /// Counts the answer to a dataset that was asked for.
     pub fn count_handed_out<T>(&mut self, answer: Result<T, Refusal>) {
         self.handed_out[number(answer)] += 1;
+    }
+
+    /// Counts the answer to a value that was asked for as a whole.
+    pub fn count_whole(&mut self, answer: Result<usize, Refusal>) {
+        if let Ok(datasets) = answer {
+            self.by_datasets[datasets] += 1;
+        }
+        self.whole[number(answer)] += 1;
+    }
+
+    /// Counts a list of the ports that are present.
+    pub fn count_ports(&mut self, ports: usize) {
+        self.by_ports[ports] += 1;
     }
 
     /// Counts the sign and the experiment number of a dataset that was handed out by a table.
@@ -90,6 +109,35 @@ impl TableTally {
         }
     }
 
+    /// Panics unless each number came at least `least` times for a value as a whole, 0 for one that was handed out.
+    pub fn expect_whole(&self, numbers: impl IntoIterator<Item = usize>, least: u64) {
+        for number in numbers {
+            let seen = self.whole[number];
+            assert!(
+                seen >= least,
+                "{number} came {seen} times for whole values, not {least}\n{self}"
+            );
+        }
+    }
+
+    /// Panics unless values of every number of datasets were handed out as a whole at least `least` times.
+    pub fn expect_every_number_of_datasets(&self, least: u64) {
+        for (datasets, &seen) in self.by_datasets.iter().enumerate().skip(1) {
+            assert!(
+                seen >= least,
+                "{datasets} datasets came {seen} times, not {least}\n{self}"
+            );
+        }
+    }
+
+    /// Panics unless lists of so many ports came at least `least` times.
+    pub fn expect_lists_of_ports(&self, numbers: impl IntoIterator<Item = usize>, least: u64) {
+        for ports in numbers {
+            let seen = self.by_ports[ports];
+            assert!(seen >= least, "{ports} ports came {seen} times, not {least}\n{self}");
+        }
+    }
+
     /// Panics unless whole numbers of each sign were handed out at least `least` times.
     pub fn expect_signs(&self, least: u64) {
         for &seen in &self.values[..2] {
@@ -128,8 +176,16 @@ impl fmt::Display for TableTally {
     fn fmt(&self, f: &mut fmt::Formatter) -> fmt::Result {
         let sum = |counts: &[u64]| counts.iter().sum::<u64>();
         write!(f, "{} messages", sum(&self.offered))?;
-        for (name, counts) in [("offered", &self.offered), ("handed out", &self.handed_out)] {
-            write!(f, "\n{name}")?;
+        for (name, counts) in [
+            ("offered", &self.offered[..]),
+            ("handed out", &self.handed_out),
+            ("values as a whole", &self.whole),
+            ("their datasets", &self.by_datasets),
+            ("lists of ports", &self.by_ports),
+        ] {
+            if sum(counts) > 0 {
+                write!(f, "\n{name}")?;
+            }
             for (number, seen) in counts.iter().enumerate().filter(|(_, &seen)| seen > 0) {
                 write!(f, " {number}:{seen}")?;
             }

@@ -1,10 +1,12 @@
 use std::collections::BTreeSet;
 
-use yardstick::{MessageList, Offered, Table, Way, Wiring};
+use yardstick::{MessageList, Offered, Refusal, Table, Way, Wiring};
 
-use super::answer::{dataset_cells, format_cells, offer_answer, port_cells, DATASET_CELLS};
+use super::answer::{dataset_cells, format_cells, offer_answer, port_cells, values_cells};
 use super::lent_table::LentTable;
 use super::tally::TableTally;
+use crate::answer::{refused, TOO_SHORT};
+use crate::castanetash::{DATASET_CELLS, MOST_DATASETS, PORT_CELLS};
 
 /// A list of messages that three follow: the product's table, the second program's table and the reader without a
 /// table. Every comparison panics if two of them differ.
@@ -68,14 +70,14 @@ impl Trio {
         touched
     }
 
-    /// Hands out a dataset of a message as the next of the list. Gives the product's cells.
+    /// Hands out a dataset of a message as the next of the list. Gives the product's cells, unless it is refused.
     pub fn hand_out(
         &mut self,
         tally: &mut TableTally,
         way: Way,
         message: &[u8],
         number: usize,
-    ) -> [u64; DATASET_CELLS] {
+    ) -> Option<[u64; DATASET_CELLS]> {
         let answer = self.table.hand_out(way, message, number);
         let by_list = self.list.hand_out(way, message, number);
         let by_product = self.product.dataset(way, message, number);
@@ -92,35 +94,95 @@ impl Trio {
         if let Ok(dataset) = answer {
             tally.count_dataset(&self.table, &dataset);
         }
-        by_product
+        by_product.ok()
     }
 
-    /// Compares what is held about a port, and the formats of its modes.
-    pub fn compare_port(&mut self, tally: &mut TableTally, port: u8) {
+    /// Hands out all datasets of a message in one call, and compares them with those that the product hands out one by
+    /// one. There have to be as many cells as they have.
+    pub fn hand_out_all(&mut self, tally: &mut TableTally, way: Way, message: &[u8]) {
+        let answer = self.table.values(way, message);
+        let name = || format!("the values of {message:02X?} {way:?}");
+        let by_list = self.list.values(way, message);
+        assert_eq!(by_list, answer, "the second program differs on {}", name());
+        tally.count_whole(answer.as_ref().map(Vec::len).map_err(|&refusal| refusal));
+        let by_product = self.product.values(way, message);
+        assert_eq!(by_product, values_cells(answer), "the product differs on {}", name());
+        match by_product {
+            Ok(cells) => {
+                let rows = cells.chunks_exact(DATASET_CELLS);
+                let datasets = rows.len();
+                for (number, row) in rows.enumerate() {
+                    let one = self.product.dataset(way, message, number);
+                    assert_eq!(
+                        one.as_ref().map(|one| &one[..]),
+                        Ok(row),
+                        "dataset {number} of {}",
+                        name()
+                    );
+                }
+                let next = self.product.dataset(way, message, datasets);
+                assert_eq!(next, Err(refused(Refusal::NO_DATASET)), "past {}", name());
+                let room = cells.len();
+                assert_eq!(self.product.values_in(way, message, room), Ok(cells), "{}", name());
+                let too_short = self.product.values_in(way, message, room - 1);
+                assert_eq!(too_short, Err(TOO_SHORT), "{}", name());
+            }
+            // At least one of them is refused so, and the others not.
+            Err(answer) if answer == refused(Refusal::NOT_FINITE) => {
+                let answers = (0..MOST_DATASETS).map(|number| self.product.dataset(way, message, number));
+                let refusals: Vec<u64> = answers.filter_map(Result::err).collect();
+                assert!(refusals.contains(&answer), "{}", name());
+                let others = [answer, refused(Refusal::NO_DATASET)];
+                assert!(refusals.iter().all(|it| others.contains(it)), "{}", name());
+            }
+            Err(answer) => {
+                let one = self.product.dataset(way, message, 0);
+                assert_eq!(one, Err(answer), "{}", name());
+                // Fewer cells don't matter.
+                assert_eq!(self.product.values_in(way, message, 0), Err(answer), "{}", name());
+            }
+        }
+    }
+
+    /// Compares what is held about a port, and the formats of its modes. Gives whether the product has it as present.
+    pub fn compare_port(&mut self, tally: &mut TableTally, port: u8) -> bool {
         let answer = self.table.port(port);
         assert_eq!(
             self.list.port(port),
             answer,
             "the second program differs on port {port}"
         );
-        assert_eq!(
-            self.product.port(port),
-            port_cells(Ok(answer)),
-            "the product differs on port {port}"
-        );
+        let by_product = self.product.port(port);
+        assert_eq!(by_product, port_cells(Ok(answer)), "the product differs on port {port}");
         tally.count_port(answer);
         // No mode of an absent port has a format; a mode over 15 has none either.
         match answer {
             Some(_) => (0..=16).for_each(|mode| self.compare_format(tally, port, mode)),
             None => self.compare_format(tally, port, port % 16),
         }
+        by_product != Ok([0; PORT_CELLS])
     }
 
-    /// Compares all of the ports.
+    /// Compares the ports, and the list of those that are present.
     pub fn compare_ports(&mut self, tally: &mut TableTally, ports: impl IntoIterator<Item = u8>) {
         for port in ports {
             self.compare_port(tally, port);
         }
+        let mut present: Vec<u8> = self.table.ports().collect();
+        present.sort_unstable();
+        tally.count_ports(present.len());
+        assert_eq!(self.product.ports(), Ok(present), "the product differs on the ports");
+    }
+
+    /// Compares all 256 ports, and the list of those that are present with them.
+    pub fn compare_all_ports(&mut self, tally: &mut TableTally) {
+        let present: Vec<u8> = (0..=255).filter(|&port| self.compare_port(tally, port)).collect();
+        tally.count_ports(present.len());
+        assert!(
+            self.list.ports().eq(present.iter().copied()),
+            "the second program differs on the ports"
+        );
+        assert_eq!(self.product.ports(), Ok(present), "the ports and the list of them");
     }
 
     /// The ports that a message names, and their partners.

@@ -1,7 +1,5 @@
 use yardstick::examples::FORMS;
-use yardstick::{decode, Form, Way};
-
-use crate::cells::{Cells, CELLS};
+use yardstick::{decode, Form, Row, Way, ROW_CELLS};
 
 /// A length of output that every message fits in with some bytes to spare.
 pub const OUTPUT: usize = 130;
@@ -13,7 +11,7 @@ pub struct Call {
     pub way: Way,
     /// The message's form.
     pub form: Form,
-    /// The message's values, of which some may not be of their kind.
+    /// The message's values, which may be any numbers.
     pub values: Vec<u64>,
     /// The open bytes.
     pub open: Vec<u8>,
@@ -34,12 +32,12 @@ impl Call {
         })
     }
 
-    /// The cells of the message. Those that the writer has no use for hold any numbers.
-    pub fn cells(&self) -> Cells {
-        let mut cells = [0xA5A5_0000_0000_5A00; CELLS];
-        cells[2] = self.form.number().into();
-        cells[6..][..self.values.len()].copy_from_slice(&self.values);
-        cells
+    /// The row of the message. The cells that the writer has no use for hold any numbers.
+    pub fn row(&self) -> Row {
+        let mut row = [0xA5A5_0000_0000_5A00; ROW_CELLS];
+        row[0] = self.form.number().into();
+        row[4..][..self.values.len()].copy_from_slice(&self.values);
+        row
     }
 }
 

@@ -1,12 +1,10 @@
 //! Comparing the two writers.
 
-mod answer;
 mod call;
 mod edges;
 mod random_calls;
 mod tally;
 
-pub use answer::NO_MESSAGE;
 pub use call::{valid_calls, Call, OUTPUT};
 pub use edges::{edges, outside};
 pub use random_calls::{any_call, near_call};

@@ -1,7 +1,7 @@
 use yardstick::{Form, Kind, Way};
 
 use super::call::{Call, OUTPUT};
-use super::edges::edges;
+use super::edges::{edges, outside};
 use yardstick::traffic::plausible;
 use yardstick::Random;
 
@@ -27,11 +27,13 @@ pub fn near_call(random: &mut Random) -> Call {
     call
 }
 
-/// Makes a random call of any form, whose values are any of their kinds, with small ones often.
+/// Makes a random call of any form, whose values are any of their kinds, with small ones often. The selectors that the
+/// form decides are others now and then.
 pub fn any_call(random: &mut Random) -> Call {
     let form = random.one_of(&Form::ALL);
     let value = |&kind: &Kind| match kind {
         Kind::Byte => u64::from(random.byte() & random.one_of(&[0xFF, 0x0F, 0x0F, 0x07])),
+        Kind::Fixed(_) if random.once_in(4) => u64::from(random.byte() & random.one_of(&[0xFF, 0x0F, 0x03])),
         _ => of_kind(random, kind),
     };
     let values = form.kinds().iter().map(value).collect();
@@ -53,18 +55,23 @@ fn fill_past_count(random: &mut Random, call: &mut Call) {
     if call.form == Form::PortCombinations {
         let count = call.values[2] as usize;
         for entry in &mut call.values[3..][count..] {
-            *entry = of_kind(random, Kind::TwoBytes);
+            *entry = if random.once_in(2) {
+                of_kind(random, Kind::TwoBytes)
+            } else {
+                random.number()
+            };
         }
     }
 }
 
-/// Changes a value now and then to another of its kind, or to the next number.
+/// Changes a value now and then to another of its kind, to one outside of it, or to the next number.
 fn change_values(random: &mut Random, call: &mut Call) {
     for (value, &kind) in call.values.iter_mut().zip(call.form.kinds()) {
         *value = match random.below(48) {
             0 => value.wrapping_add(1),
             1 => value.wrapping_sub(1),
-            2 | 3 => of_kind(random, kind),
+            2 => of_kind(random, kind),
+            3 if kind != Kind::SixBytes => random.one_of(&outside(kind)),
             _ => *value,
         };
     }

@@ -1,13 +1,12 @@
 use std::fmt;
 
-use yardstick::{encode_to, Form, Message};
+use yardstick::{write_row, Form, Random, Way, ROW_CELLS};
 
-use super::answer::{answer, number, NO_MESSAGE};
 use super::call::Call;
+use crate::answer::{answer, number};
 use crate::product;
-use yardstick::Random;
 
-/// The answers that are counted: acceptance, the refusals of writing, and no message.
+/// The answers that are counted: acceptance, the refusals of writing, and rows that are no message's own.
 const NUMBERS: [usize; 6] = [0, 5, 6, 7, 8, 255];
 
 /// How many bytes before and after the output are looked at too.
@@ -16,8 +15,8 @@ const MARGIN: usize = 8;
 /// Compares the two writers, and counts what was compared.
 pub struct WriteTally {
     calls: u64,
-    /// For each form, how often each of the numbers came.
-    seen: [[u64; NUMBERS.len()]; Form::COUNT],
+    /// For each form, how often each of the numbers came; at 0 for rows that are too short or have no form.
+    seen: [[u64; NUMBERS.len()]; Form::COUNT + 1],
     /// Random bytes, of which another part stands in the output before each call.
     pattern: Vec<u8>,
 }
@@ -27,7 +26,7 @@ impl Default for WriteTally {
         let mut random = Random::new(0);
         WriteTally {
             calls: 0,
-            seen: [[0; NUMBERS.len()]; Form::COUNT],
+            seen: [[0; NUMBERS.len()]; Form::COUNT + 1],
             pattern: (0..2048).map(|_| random.byte()).collect(),
         }
     }
@@ -43,14 +42,20 @@ struct Outcome {
 impl WriteTally {
     /// Writes a message by both programs. Panics if the answers differ, or the outputs in any byte.
     pub fn compare(&mut self, call: &Call) {
-        let before = self.output_before(call.output);
-        let expected = by_second_program(call, before.to_vec());
-        let outcome = by_product(call, before.to_vec());
-        if outcome != expected {
-            differ(call, &expected, &outcome);
+        self.compare_row(call.way, &call.row(), &call.open, call.output);
+    }
+
+    /// The same with any cells as the row. Gives the answer.
+    pub fn compare_row(&mut self, way: Way, row: &[u64], open: &[u8], output: usize) -> u64 {
+        let before = self.output_before(output);
+        let expected = outcome(before, output, |lent| answer(write_row(way, row, open, lent)));
+        let by_product = outcome(before, output, |lent| product::write(way, row, open, lent));
+        if by_product != expected {
+            differ(way, row, open, &expected, &by_product);
         }
         self.calls += 1;
-        self.seen[row(call.form)][column(number(expected.answer))] += 1;
+        self.seen[form_number(row)][column(number(expected.answer))] += 1;
+        expected.answer
     }
 
     /// How many calls were compared.
@@ -58,14 +63,14 @@ impl WriteTally {
         self.calls
     }
 
-    /// How often a number came, 0 for acceptance and 255 for no message.
+    /// How often a number came, 0 for acceptance and 255 for a row that is no message's own.
     pub fn seen(&self, number: usize) -> u64 {
-        Form::ALL.into_iter().map(|form| self.seen_for(form, number)).sum()
+        self.seen.iter().map(|seen| seen[column(number)]).sum()
     }
 
     /// How often a number came for a form.
     pub fn seen_for(&self, form: Form, number: usize) -> u64 {
-        self.seen[row(form)][column(number)]
+        self.seen[usize::from(form.number())][column(number)]
     }
 
     /// Panics unless every number in `numbers` came at least `least` times.
@@ -101,23 +106,18 @@ impl WriteTally {
     }
 }
 
-fn by_second_program(call: &Call, mut output: Vec<u8>) -> Outcome {
-    let lent = &mut output[MARGIN..][..call.output];
-    let answer = match Message::new(call.form, &call.values) {
-        Some(message) => answer(encode_to(call.way, message, &call.open, lent)),
-        None => NO_MESSAGE,
-    };
+/// What a call gives with an output of this length.
+fn outcome(before: &[u8], length: usize, call: impl FnOnce(&mut [u8]) -> u64) -> Outcome {
+    let mut output = before.to_vec();
+    let answer = call(&mut output[MARGIN..][..length]);
     Outcome { answer, output }
 }
 
-fn by_product(call: &Call, mut output: Vec<u8>) -> Outcome {
-    let lent = &mut output[MARGIN..][..call.output];
-    let answer = product::write(call.way, &call.cells(), &call.open, lent);
-    Outcome { answer, output }
-}
-
-fn row(form: Form) -> usize {
-    usize::from(form.number()) - 1
+/// The number of a row's form, 0 if it has none or is too short.
+fn form_number(row: &[u64]) -> usize {
+    let is_row = row.len() >= ROW_CELLS;
+    let form = row.first().filter(|_| is_row).copied().and_then(Form::of_number);
+    form.map_or(0, |form| form.number().into())
 }
 
 fn column(number: usize) -> usize {
@@ -130,23 +130,24 @@ fn can_get(form: Form, number: usize) -> bool {
     match number {
         // 01, 02 and 03 go both ways.
         5 => form.number() >= Form::Detached.number(),
-        // These have neither a selector with more than one value nor a field with a list.
+        // These have neither a selector nor a field with a list.
         7 => !matches!(
             form,
-            Form::Detached
-                | Form::Attached
-                | Form::AttachedVirtual
+            Form::GoIntoBootMode | Form::LockMemory | Form::LockStatusRequest | Form::LockStatus | Form::PortValue
+        ),
+        // These have no field without a list.
+        255 => !matches!(
+            form,
+            Form::PropertyCommand
+                | Form::PropertyText
+                | Form::PropertyAddress
+                | Form::HubAction
+                | Form::AlertCommand
+                | Form::AlertUpdate
                 | Form::GoIntoBootMode
                 | Form::LockMemory
                 | Form::LockStatusRequest
-                | Form::LockStatus
-                | Form::PortCombinations
-                | Form::PortValue
-                | Form::VirtualDisconnect
-                | Form::VirtualConnect
         ),
-        // A form without values has no wrong ones.
-        255 => !form.kinds().is_empty(),
         _ => true,
     }
 }
@@ -157,13 +158,13 @@ impl fmt::Display for WriteTally {
         for number in NUMBERS.into_iter().filter(|&number| self.seen(number) > 0) {
             let name = match number {
                 0 => "accepted".to_owned(),
-                255 => "no message".to_owned(),
                 _ => format!("refused {number}"),
             };
             write!(f, "\n{name} {}, by form", self.seen(number))?;
-            for form in Form::ALL {
-                let seen = self.seen_for(form, number);
-                write!(f, " {}:{seen}", form.number())?;
+            for (form, seen) in self.seen.iter().map(|seen| seen[column(number)]).enumerate() {
+                if form > 0 || seen > 0 {
+                    write!(f, " {form}:{seen}")?;
+                }
             }
         }
         Ok(())
@@ -171,7 +172,7 @@ impl fmt::Display for WriteTally {
 }
 
 #[cold]
-fn differ(call: &Call, expected: &Outcome, product: &Outcome) -> ! {
+fn differ(way: Way, row: &[u64], open: &[u8], expected: &Outcome, product: &Outcome) -> ! {
     let show = |outcome: &Outcome| {
         let number = number(outcome.answer);
         let rest = outcome.answer as u32;
@@ -181,7 +182,7 @@ fn differ(call: &Call, expected: &Outcome, product: &Outcome) -> ! {
         )
     };
     panic!(
-        "the programs differ on {call:?}\nsecond program: {}\nproduct:        {}",
+        "the programs differ on {row:X?} {way:?} with open bytes {open:02X?}\nsecond program: {}\nproduct:        {}",
         show(expected),
         show(product)
     );

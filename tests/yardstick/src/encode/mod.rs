@@ -1,4 +1,5 @@
-//! Writing. Each step judges one part of the order for writing: 5, selectors 7, 6, fields 7, 8.
+//! Writing. Each step judges one part of the order for writing: 5, selectors 7, 6, fields 7, 8. The values may be any
+//! numbers of 64 bits: one that is wider than its field is 7 where the field has a list, else 255 before 8.
 
 mod bytes;
 mod layout;

@@ -9,35 +9,46 @@ use crate::way::Way;
 /// the last of them.
 pub(super) fn judge(way: Way, message: Message) -> Result<(), Refusal> {
     let form = message.form();
-    match message_type(form) {
-        0x01 => {
-            let [property, operation] = [message.byte(0), message.byte(1)];
-            expect(lists::is_property(property), 3)?;
-            expect(lists::is_operation(way, property, operation), 4)?;
-            expect(form == form_of_property(property, operation), 4)
+    let (last, form_of_selectors) = match (message_type(form), message.values()) {
+        (0x01, &[property, operation, ..]) => {
+            let property = listed(property, 3, lists::is_property)?;
+            let operation = listed(operation, 4, |it| lists::is_operation(way, property, it))?;
+            (4, form_of_property(property, operation))
         }
-        0x02 => expect(lists::is_action(way, message.byte(0)), 3),
-        0x03 => {
-            let [alert, operation] = [message.byte(0), message.byte(1)];
-            expect(lists::is_alert(alert), 3)?;
-            expect(lists::is_alert_operation(way, operation), 4)?;
-            expect(form == form_of_alert(operation), 4)
+        (0x02, &[action, ..]) => {
+            listed(action, 3, |it| lists::is_action(way, it))?;
+            (3, Form::HubAction)
         }
-        0x44 => {
-            let information_type = message.byte(2);
-            expect(lists::is_mode_information_type(information_type), 5)?;
-            expect(form == form_of_mode_information(information_type), 5)
+        (0x03, &[alert, operation, ..]) => {
+            listed(alert, 3, lists::is_alert)?;
+            let operation = listed(operation, 4, |it| lists::is_alert_operation(way, it))?;
+            (4, form_of_alert(operation))
         }
-        // Each form of a 04, a 43 and a 61 has one selector of one value. The other types have no selector.
-        _ => Ok(()),
+        (0x04, &[_, event, ..]) => (4, form_of_event(listed(event, 4, lists::is_event)?)),
+        (0x43, &[_, information_type, ..]) => {
+            let information_type = listed(information_type, 4, lists::is_port_information)?;
+            (4, form_of_port_information(information_type))
+        }
+        (0x44, &[_, _, information_type, ..]) => {
+            let information_type = listed(information_type, 5, lists::is_mode_information_type)?;
+            (5, form_of_mode_information(information_type))
+        }
+        (0x61, &[sub, ..]) => (3, form_of_sub(listed(sub, 3, lists::is_sub)?)),
+        // The other types have no selector.
+        _ => return Ok(()),
+    };
+    if form == form_of_selectors {
+        Ok(())
+    } else {
+        Err(Refusal::field(last))
     }
 }
 
-fn expect(right: bool, place: usize) -> Result<(), Refusal> {
-    if right {
-        Ok(())
-    } else {
-        Err(Refusal::field(place))
+/// Judges the selector at a place. A number wider than a byte is in no list.
+fn listed(number: u64, place: usize, is_listed: impl Fn(u8) -> bool) -> Result<u8, Refusal> {
+    match u8::try_from(number) {
+        Ok(byte) if is_listed(byte) => Ok(byte),
+        _ => Err(Refusal::field(place)),
     }
 }
 
@@ -63,6 +74,22 @@ fn form_of_alert(operation: u8) -> Form {
     }
 }
 
+fn form_of_event(event: u8) -> Form {
+    match event {
+        0 => Form::Detached,
+        1 => Form::Attached,
+        _ => Form::AttachedVirtual,
+    }
+}
+
+fn form_of_port_information(information_type: u8) -> Form {
+    if information_type == 1 {
+        Form::PortModes
+    } else {
+        Form::PortCombinations
+    }
+}
+
 fn form_of_mode_information(information_type: u8) -> Form {
     match information_type {
         0 | 4 => Form::ModeText,
@@ -71,5 +98,13 @@ fn form_of_mode_information(information_type: u8) -> Form {
         7 => Form::ModeBias,
         8 => Form::ModeCapabilities,
         _ => Form::ValueFormat,
+    }
+}
+
+fn form_of_sub(sub: u8) -> Form {
+    if sub == 0 {
+        Form::VirtualDisconnect
+    } else {
+        Form::VirtualConnect
     }
 }

@@ -52,11 +52,13 @@ const fn short(way: Way, form: Form, values: &'static [u64], open: &'static [u8]
     }
 }
 
-/// Messages that writing refuses: the order of the refusals, and the edges of sizes and lists. What is accepted is
+/// Messages that writing refuses: the order of the refusals, the edges of sizes, lists and widths. What is accepted is
 /// in the examples of the forms.
 #[rustfmt::skip]
 pub const WRITING: &[Unwritten] = &[
-    // The way comes first, before fields, open bytes and the output.
+    // The way comes first, before fields, open bytes and the output, however wide the numbers are.
+    refused_open(Down, Form::Attached, &[300, 300, 70_000, 1 << 32, 1 << 32], b"x", 5, 2),
+    refused_open(Up, Form::VirtualConnect, &[u64::MAX, 300, 300], b"x", 5, 2),
     refused(Down, Form::Detached, &[0, 0], 5, 2),
     refused(Up, Form::LockStatusRequest, &[], 5, 2),
     refused_open(Up, Form::InputFormatSetup, &[0, 16, 1, 2], b"x", 5, 2),
@@ -87,6 +89,37 @@ pub const WRITING: &[Unwritten] = &[
     refused(Up, Form::AlertCommand, &[1, 4], 7, 4),
     refused_open(Up, Form::ModeText, &[0, 0, 1], b"x", 7, 5),
     refused(Up, Form::ModeRange, &[0, 0, 4, 0, 0], 7, 5),
+    // Among them selectors of which a form has one.
+    refused(Up, Form::PropertyRssi, &[3, 6, 0], 7, 4),
+    refused(Up, Form::PropertyProtocol, &[5, 6, 0], 7, 4),
+    refused(Down, Form::AlertUpdate, &[1, 1, 0], 7, 4),
+    refused(Up, Form::Detached, &[0, 1], 7, 4),
+    refused(Up, Form::Attached, &[0, 2, 0, 0, 0], 7, 4),
+    refused(Up, Form::AttachedVirtual, &[0, 0, 0, 0, 1], 7, 4),
+    refused(Up, Form::PortModes, &[0, 2, 0, 0, 0, 0], 7, 4),
+    refused(Up, Form::PortCombinations, &[0, 1, 1, 0, 0, 0, 0, 0, 0, 0, 0], 7, 4),
+    refused(Up, Form::ModeMapping, &[0, 0, 7, 0], 7, 5),
+    refused(Up, Form::ValueFormat, &[0, 0, 8, 1, 0, 0, 0], 7, 5),
+    refused(Down, Form::VirtualDisconnect, &[1, 0], 7, 3),
+    refused(Down, Form::VirtualConnect, &[0, 0, 1], 7, 3),
+    // Selectors that are in no list.
+    refused(Up, Form::Detached, &[0, 3], 7, 4),
+    refused(Up, Form::PortModes, &[0, 0, 0, 0, 0, 0], 7, 4),
+    refused(Up, Form::ValueFormat, &[0, 0, 6, 1, 0, 0, 0], 7, 5),
+    refused(Down, Form::VirtualConnect, &[2, 0, 1], 7, 3),
+    // Selectors that are wider than a byte, with a listed one in their lowest byte, and something wrong after them.
+    refused_open(Down, Form::PropertyCommand, &[256 + 1, 256 + 5], b"x", 7, 3),
+    refused_open(Down, Form::PropertyCommand, &[1, 256 + 5], b"x", 7, 4),
+    refused(Up, Form::PropertyRssi, &[300, 6, 300], 7, 3),
+    refused_open(Up, Form::HubAction, &[256 + 0x30], b"x", 7, 3),
+    refused(Up, Form::AlertUpdate, &[1 << 32 | 1, 4, 0], 7, 3),
+    refused(Up, Form::AlertUpdate, &[1, u64::MAX, 300], 7, 4),
+    refused(Up, Form::Detached, &[300, 300], 7, 4),
+    refused(Up, Form::Detached, &[300, 256], 7, 4),
+    refused(Up, Form::Attached, &[0, 1 << 63 | 1, 70_000, 0, 0], 7, 4),
+    refused(Up, Form::PortCombinations, &[300, 256 + 2, 300, 0, 0, 0, 0, 0, 0, 0, 0], 7, 4),
+    refused(Up, Form::ModeBias, &[300, 300, 256 + 7, 300], 7, 5),
+    refused(Down, Form::VirtualDisconnect, &[256, 300], 7, 3),
     // Open bytes that a form doesn't have.
     refused_open(Down, Form::LockStatusRequest, &[], b"x", 6, 0),
     refused_open(Down, Form::GoIntoBootMode, &[], b"LPF2-Boot", 6, 0),
@@ -108,6 +141,12 @@ pub const WRITING: &[Unwritten] = &[
     refused(Up, Form::PortCombinations, &[0, 2, 0, 1, 0, 0, 0, 0, 0, 0, 0], 6, 0),
     refused(Up, Form::PortCombinations, &[0, 2, 9, 1, 0, 0, 0, 0, 0, 0, 0], 6, 0),
     refused(Up, Form::PortCombinations, &[0, 2, 255, 1, 0, 0, 0, 0, 0, 0, 0], 6, 0),
+    refused(Up, Form::PortCombinations, &[0, 2, 300, 1, 0, 0, 0, 0, 0, 0, 0], 6, 0),
+    refused(Up, Form::PortCombinations, &[0, 2, 256 + 1, 1, 0, 0, 0, 0, 0, 0, 0], 6, 0),
+    refused(Up, Form::PortCombinations, &[300, 2, u64::MAX, 65_536, 0, 0, 0, 0, 0, 0, 0], 6, 0),
+    // Open bytes before fields that are too wide.
+    refused_open(Up, Form::Detached, &[300, 0], b"x", 6, 0),
+    refused_open(Up, Form::ModeText, &[300, 300, 0], b"", 6, 0),
     // Fields, left to right.
     refused(Up, Form::PropertyByte, &[2, 6, 2], 7, 5),
     refused(Up, Form::PropertyByte, &[6, 6, 101], 7, 5),
@@ -136,6 +175,64 @@ pub const WRITING: &[Unwritten] = &[
     refused(Up, Form::ValueFormat, &[0, 0, 0x80, 17, 4, 0, 0], 7, 6),
     refused(Up, Form::ValueFormat, &[0, 0, 0x80, 0, 4, 0, 0], 7, 6),
     refused(Up, Form::ValueFormat, &[0, 0, 0x80, 16, 4, 0, 0], 7, 7),
+    // Fields with a list that are wider than it, some with a listed number in their lowest byte.
+    refused(Up, Form::PropertyByte, &[2, 6, 300], 7, 5),
+    refused(Up, Form::PropertyByte, &[6, 6, 256], 7, 5),
+    refused(Down, Form::PropertyByte, &[15, 1, 1 << 32], 7, 5),
+    refused(Up, Form::AlertUpdate, &[1, 4, 256], 7, 5),
+    refused(Up, Form::AlertUpdate, &[1, 4, 300], 7, 5),
+    refused(Up, Form::GenericError, &[0x41, 256 + 1], 7, 4),
+    refused(Down, Form::PortInformationRequest, &[0, 256], 7, 4),
+    refused(Down, Form::ModeInformationRequest, &[0, 300, 300], 7, 4),
+    refused(Down, Form::ModeInformationRequest, &[0, 15, 256 + 0x80], 7, 5),
+    refused(Down, Form::InputFormatSetup, &[0, 300, 1, 300], 7, 4),
+    refused(Up, Form::InputFormat, &[0, 15, 1, 300], 7, 9),
+    refused(Up, Form::PortModes, &[0, 1, 256, 0, 0, 0], 7, 5),
+    refused_open(Up, Form::ModeText, &[0, 256, 0], b"x", 7, 4),
+    refused(Up, Form::ModeBias, &[0, 0, 7, 256], 7, 6),
+    refused(Up, Form::ModeCapabilities, &[0, 0, 8, u64::MAX], 7, 6),
+    refused(Up, Form::ValueFormat, &[0, 0, 0x80, 256 + 1, 256, 0, 0], 7, 6),
+    refused(Up, Form::ValueFormat, &[0, 0, 0x80, 1, 256, 0, 0], 7, 7),
+    // They come before a wider number to their left.
+    refused(Up, Form::GenericError, &[300, 300], 7, 4),
+    refused(Down, Form::PortInformationRequest, &[300, 3], 7, 4),
+    refused(Down, Form::InputFormatSetup, &[300, 15, 1 << 32, 2], 7, 9),
+    refused(Up, Form::ModeRange, &[0, 0, 1, 1 << 32, 0x7F80_0000], 7, 10),
+    refused(Up, Form::ModeCapabilities, &[300, 0, 8, 1 << 48], 7, 6),
+    refused(Up, Form::ValueFormat, &[300, 0, 0x80, 1, 4, 0, 0], 7, 7),
+    // Numbers that are wider than a field without a list: they come last but for the output.
+    refused(Up, Form::PropertyByte, &[11, 6, 300], 255, 0),
+    refused(Down, Form::PropertyByte, &[12, 1, 256], 255, 0),
+    refused(Up, Form::PropertyRssi, &[5, 6, 128], 255, 0),
+    refused(Up, Form::PropertyRssi, &[5, 6, 255], 255, 0),
+    refused(Up, Form::PropertyRssi, &[5, 6, -129_i64 as u64], 255, 0),
+    refused(Up, Form::PropertyVersion, &[3, 6, 1 << 31], 255, 0),
+    refused(Up, Form::PropertyVersion, &[4, 6, -0x8000_0001_i64 as u64], 255, 0),
+    refused(Up, Form::PropertyProtocol, &[10, 6, 65_536], 255, 0),
+    refused(Up, Form::Detached, &[300, 0], 255, 0),
+    refused(Up, Form::Attached, &[0, 1, 70_000, 0, 0], 255, 0),
+    refused(Up, Form::Attached, &[0, 1, 0, 1 << 31, 0], 255, 0),
+    refused(Up, Form::Attached, &[0, 1, 0, 0, 0xFFFF_FFFF], 255, 0),
+    refused(Up, Form::AttachedVirtual, &[0, 2, 0, 0, 256], 255, 0),
+    refused(Up, Form::GenericError, &[300, 8], 255, 0),
+    refused(Up, Form::LockStatus, &[300], 255, 0),
+    refused(Down, Form::PortInformationRequest, &[256, 2], 255, 0),
+    refused(Down, Form::ModeInformationRequest, &[u64::MAX, 15, 8], 255, 0),
+    refused(Down, Form::InputFormatSetup, &[0, 15, 1 << 32, 1], 255, 0),
+    refused(Up, Form::PortModes, &[0, 1, 15, 300, 0, 0], 255, 0),
+    refused(Up, Form::PortModes, &[0, 1, 15, 0, 0, 65_536], 255, 0),
+    refused(Up, Form::PortCombinations, &[0, 2, 2, 0, 65_536, 0, 0, 0, 0, 0, 0], 255, 0),
+    refused(Up, Form::PortCombinations, &[0, 2, 8, 0, 0, 0, 0, 0, 0, 0, u64::MAX], 255, 0),
+    refused_open(Up, Form::ModeText, &[300, 0, 0], b"x", 255, 0),
+    refused(Up, Form::ModeRange, &[0, 0, 1, 1 << 32, 0], 255, 0),
+    // A float beyond 32 bits that is an infinity in its lowest 32.
+    refused(Up, Form::ModeRange, &[0, 0, 1, 0, 1 << 32 | 0x7F80_0000], 255, 0),
+    refused(Up, Form::ModeMapping, &[0, 0, 5, 65_536], 255, 0),
+    refused(Up, Form::ValueFormat, &[0, 0, 0x80, 1, 0, 256, 0], 255, 0),
+    refused(Up, Form::ValueFormat, &[0, 0, 0x80, 1, 0, 0, 256], 255, 0),
+    refused_open(Up, Form::PortValue, &[300], b"x", 255, 0),
+    refused(Down, Form::VirtualDisconnect, &[0, 300], 255, 0),
+    refused(Down, Form::VirtualConnect, &[1, 0, 300], 255, 0),
     // The output.
     short(Down, Form::LockStatusRequest, &[], b"", 2),
     short(Down, Form::GoIntoBootMode, &[], b"", 11),
@@ -143,4 +240,6 @@ pub const WRITING: &[Unwritten] = &[
     short(Up, Form::PortCombinations, &[0, 2, 8, 1, 2, 3, 4, 5, 6, 7, 8], b"", 20),
     short(Up, Form::ModeText, &[0, 15, 4], b"DEG", 8),
     short(Up, Form::PortValue, &[0], &[b'x'; 123], 126),
+    // Entries of a 43 past its count may hold anything.
+    short(Up, Form::PortCombinations, &[0, 2, 1, 1, 65_536, u64::MAX, 0, 0, 0, 0, 1 << 32], b"", 6),
 ];

@@ -3,6 +3,6 @@
 mod reader;
 mod record;
 
-pub use reader::read_log;
+pub use reader::{read_block, read_log, LINE_ROOM};
 pub(crate) use record::MESSAGE_PART;
 pub use record::{log_message, log_record, LOG_RECORD};

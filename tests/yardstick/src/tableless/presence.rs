@@ -32,6 +32,6 @@ impl MessageList {
 
     /// How many ports are present.
     pub(super) fn ports_present(&self) -> usize {
-        (0..=255).filter(|&port| self.is_present(port)).count()
+        self.ports().count()
     }
 }

@@ -25,8 +25,8 @@ pub(super) fn lay_out(bytes: &mut Bytes, form: Form, values: &[u64]) -> Result<(
             bytes.byte(port);
             bytes.byte(event);
             bytes.two_bytes(device);
-            bytes.four_bytes(hardware_revision);
-            bytes.four_bytes(software_revision);
+            bytes.signed_four_bytes(hardware_revision);
+            bytes.signed_four_bytes(software_revision);
         }
         (Form::AttachedVirtual, &[port, event, device, port_a, port_b]) => {
             bytes.byte(port);

@@ -25,7 +25,7 @@ pub(super) fn lay_out(message: Message, open: &[u8]) -> Result<Vec<u8>, Refusal>
         _ => port::lay_out(&mut bytes, form, values)?,
     }
     bytes.run(open);
-    Ok(bytes.finish())
+    bytes.finish()
 }
 
 /// The values of a message are those of its form.

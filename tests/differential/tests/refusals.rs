@@ -1,0 +1,705 @@
+//! Every function of the product, refused in every way that it can be. A refused call changes no byte and no cell of
+//! anything that it is lent, and an accepted one none past what it writes. All answers are written out by hand.
+
+use std::collections::BTreeSet;
+
+use differential::{
+    castanetash_dataset, castanetash_empty, castanetash_format, castanetash_offer, castanetash_port, castanetash_ports,
+    castanetash_read, castanetash_read_block, castanetash_values, castanetash_write, number, Lent, DATASET_CELLS,
+    FORMAT_CELLS, NOT_SOUND, PORT_CELLS, ROW_CELLS, TOO_SHORT, TOTALS_CELLS,
+};
+use yardstick::examples::{bytes, SOUND};
+use yardstick::{log_record, Table, Way, LINE_ROOM, LOG_RECORD, TABLE_CELLS};
+
+const DOWN: u8 = 0;
+const UP: u8 = 1;
+
+/// An answer that refuses.
+const fn refusal(number: u64, place: u64) -> u64 {
+    number << 32 | place
+}
+
+/// The numbers of the refusals that a function gave, and how many calls there were.
+#[derive(Default)]
+struct Given {
+    numbers: BTreeSet<usize>,
+    calls: u64,
+}
+
+impl Given {
+    #[track_caller]
+    fn expect(&mut self, answer: u64, expected: u64, name: &str) {
+        assert_eq!(
+            [answer >> 32, answer & 0xFFFF_FFFF],
+            [expected >> 32, expected & 0xFFFF_FFFF],
+            "{name}"
+        );
+        self.numbers.insert(number(answer));
+        self.calls += 1;
+    }
+
+    /// Panics unless these numbers were given, 0 for acceptance, and no others.
+    #[track_caller]
+    fn expect_all(&self, function: &str, numbers: &[usize]) {
+        println!("{function}: {} calls, answers {:?}", self.calls, self.numbers);
+        assert!(self.numbers.iter().eq(numbers), "{function} gave {:?}", self.numbers);
+    }
+}
+
+/// After a call: what it only looks at is as it was, and what it writes to starts with what it wrote.
+#[track_caller]
+fn expect_written<T: differential::Filling>(answer: u64, lent: &Lent<T>, written: &[T], name: &str) {
+    if number(answer) == 0 {
+        lent.expect(written, name);
+    } else {
+        lent.expect_unchanged(name);
+    }
+}
+
+/// Messages that reading refuses, with their way and the answer.
+const UNREAD: [(u8, &str, u64); 10] = [
+    (DOWN, "", refusal(1, 0)),
+    (UP, "80", refusal(2, 0)),
+    (DOWN, "04 00 02", refusal(3, 0)),
+    (UP, "02 00", refusal(3, 0)),
+    (DOWN, "03 01 12", refusal(4, 1)),
+    (UP, "03 00 12", refusal(5, 2)),
+    (UP, "05 00 61 00 10", refusal(5, 2)),
+    (DOWN, "03 00 02", refusal(6, 0)),
+    (DOWN, "04 00 02 07", refusal(7, 3)),
+    (UP, "0E 00 44 00 00 01 00 00 00 00 00 00 80 7F", refusal(7, 10)),
+];
+
+#[test]
+fn read() {
+    let mut given = Given::default();
+    let mut call = |way: u8, message: &str, cells: usize, expected: u64, written: &[u64]| {
+        let name = format!("`{message}`, way {way}, {cells} cells");
+        let (mut message, mut row) = (Lent::holding(&bytes(message)), Lent::filled(cells));
+        let answer = castanetash_read(message.lend(), way, row.lend());
+        given.expect(answer, expected, &name);
+        message.expect_unchanged(&name);
+        expect_written(answer, &row, written, &name);
+    };
+    // The message's own refusal comes before that of too short a row.
+    for (way, message, expected) in UNREAD {
+        for cells in 0..=ROW_CELLS + 4 {
+            call(way, message, cells, expected, &[]);
+        }
+    }
+    for (way, message, row) in [
+        (DOWN, "03 00 12", [17, 0, 0, 0, 0, 0, 0, 0, 0, 0, 0, 0, 0, 0, 0, 0]),
+        (
+            UP,
+            "06 00 45 07 FE FF",
+            [30, 4, 2, 1, 7, 0, 0, 0, 0, 0, 0, 0, 0, 0, 0, 0],
+        ),
+        (
+            UP,
+            "09 00 43 01 02 16 00 03 00",
+            [23, 0, 0, 11, 1, 2, 2, 0x16, 3, 0, 0, 0, 0, 0, 0, 0],
+        ),
+    ] {
+        for cells in 0..ROW_CELLS {
+            call(way, message, cells, TOO_SHORT, &[]);
+        }
+        for cells in ROW_CELLS..ROW_CELLS + 20 {
+            call(way, message, cells, ROW_CELLS as u64, &row);
+        }
+    }
+    given.expect_all("castanetash_read", &[0, 1, 2, 3, 4, 5, 6, 7, 255]);
+}
+
+#[test]
+fn write() {
+    let mut given = Given::default();
+    let mut call = |way: u8, row: &[u64], open: &[u8], out: usize, expected: u64, written: &str| {
+        let name = format!("{row:X?}, way {way}, open bytes {open:02X?}, {out} bytes of output");
+        let (mut row, mut open, mut out) = (Lent::holding(row), Lent::holding(open), Lent::filled(out));
+        let answer = castanetash_write(row.lend(), way, open.lend(), out.lend());
+        given.expect(answer, expected, &name);
+        row.expect_unchanged(&name);
+        open.expect_unchanged(&name);
+        expect_written(answer, &out, &bytes(written), &name);
+    };
+    // Cells that aren't looked at hold anything.
+    let row = |form: u64, values: &[u64]| {
+        let mut row = [u64::MAX; ROW_CELLS];
+        row[0] = form;
+        row[4..][..values.len()].copy_from_slice(values);
+        row
+    };
+    let every_output = || (0..20).chain([127, 128, 200]);
+
+    // A 41, and a name (44, type 0).
+    let setup = row(21, &[0x32, 15, 0x7856_3412, 1]);
+    let text = row(24, &[0, 1, 0]);
+    // Too short a row comes first, before the way, the open bytes and the output.
+    for (way, row, open) in [(DOWN, setup, &b""[..]), (UP, setup, b"xyz"), (UP, text, b"SPEED")] {
+        for cells in 0..ROW_CELLS {
+            for out in every_output() {
+                call(way, &row[..cells], open, out, TOO_SHORT, "");
+            }
+        }
+    }
+    // No form, which comes as early.
+    for form in [0, 34, 255, 256 + 21, 1 << 32 | 21, u64::MAX] {
+        for way in [DOWN, UP] {
+            for out in every_output() {
+                call(way, &row(form, &[0x32, 15, 1, 1]), b"xyz", out, TOO_SHORT, "");
+            }
+        }
+    }
+    for out in every_output() {
+        // The other way, with all else wrong too.
+        call(UP, &row(21, &[300, 300, 1 << 32, 300]), b"xyz", out, refusal(5, 2), "");
+        call(DOWN, &row(11, &[300, 300]), b"xyz", out, refusal(5, 2), "");
+        // Selectors: in no list, wider than a byte, another form's; with wrong open bytes and a wide port.
+        call(DOWN, &row(8, &[7]), b"xyz", out, refusal(7, 3), "");
+        call(UP, &row(4, &[300, 6, 300]), b"xyz", out, refusal(7, 3), "");
+        call(UP, &row(4, &[3, 6, 300]), b"xyz", out, refusal(7, 4), "");
+        call(UP, &row(11, &[300, 1]), b"xyz", out, refusal(7, 4), "");
+        call(UP, &row(24, &[300, 300, 1]), b"", out, refusal(7, 5), "");
+        // Open bytes: some for a form without them, too few, too many. The count of a 43.
+        call(DOWN, &row(21, &[300, 300, 1, 300]), b"x", out, refusal(6, 0), "");
+        call(UP, &row(24, &[300, 300, 0]), b"", out, refusal(6, 0), "");
+        call(UP, &row(24, &[0, 1, 0]), b"twelve bytes", out, refusal(6, 0), "");
+        call(UP, &row(23, &[300, 2, 300]), b"", out, refusal(6, 0), "");
+        // Fields with a list: the first of two, the second, and one to the right of a wide number.
+        call(DOWN, &row(21, &[300, 300, 1, 300]), b"", out, refusal(7, 4), "");
+        call(DOWN, &row(21, &[300, 15, 1 << 32, 2]), b"", out, refusal(7, 9), "");
+        call(UP, &row(28, &[300, 0, 8, 1 << 48]), b"", out, refusal(7, 6), "");
+        call(
+            UP,
+            &row(25, &[0, 0, 1, 1 << 32, 0x7F80_0000]),
+            b"",
+            out,
+            refusal(7, 10),
+            "",
+        );
+        // Numbers that are wider than their fields, which have no list.
+        call(DOWN, &row(21, &[300, 15, 1, 1]), b"", out, TOO_SHORT, "");
+        call(DOWN, &row(21, &[0, 15, 1 << 32, 1]), b"", out, TOO_SHORT, "");
+        call(UP, &row(4, &[5, 6, 128]), b"", out, TOO_SHORT, "");
+        call(UP, &row(23, &[0, 2, 2, 1, 65_536]), b"", out, TOO_SHORT, "");
+    }
+    // The output, of every length.
+    let written = "0A 00 41 32 0F 12 34 56 78 01";
+    for out in 0..10 {
+        call(DOWN, &setup, b"", out, refusal(8, 0), "");
+        call(UP, &text, b"SPEED", out, refusal(8, 0), "");
+    }
+    call(UP, &text, b"SPEED", 10, refusal(8, 0), "");
+    for out in [10, 11, 12, 127, 128, 200] {
+        call(DOWN, &setup, b"", out, 10, written);
+    }
+    for out in [11, 12, 127, 128, 200] {
+        call(UP, &text, b"SPEED", out, 11, "0B 00 44 00 01 00 53 50 45 45 44");
+    }
+    given.expect_all("castanetash_write", &[0, 5, 6, 7, 8, 255]);
+}
+
+/// A table with ports 0 to 5, 16 and 200. Port 0 sends two numbers of 16 bits in mode 0, as experiment 301 asked; port 1
+/// has no mode; port 2 has one without a format; port 3 sends two floats in mode 1, which nobody asked for; ports 4 and 5
+/// are joined by 16.
+fn table() -> Vec<u32> {
+    let mut table = Table::default();
+    for (way, message) in [
+        (Way::Up, "0F 00 04 C8 01 26 00 00 00 00 10 00 00 00 10"),
+        (Way::Up, "0F 00 04 03 01 26 00 00 00 00 10 00 00 00 10"),
+        (Way::Up, "0F 00 04 02 01 26 00 00 00 00 10 00 00 00 10"),
+        (Way::Up, "0F 00 04 01 01 26 00 00 00 00 10 00 00 00 10"),
+        (Way::Up, "0F 00 04 00 01 26 00 00 00 00 10 00 00 00 10"),
+        (Way::Up, "0F 00 04 04 01 26 00 00 00 00 10 00 00 00 10"),
+        (Way::Up, "0F 00 04 05 01 26 00 00 00 00 10 00 00 00 10"),
+        (Way::Up, "09 00 04 10 02 27 00 04 05"),
+        (Way::Up, "0A 00 44 00 00 80 02 01 05 01"),
+        (Way::Down, "0A 00 41 00 00 0A 00 00 00 01"),
+        (Way::Up, "0A 00 47 00 00 0A 00 00 00 01"),
+        (Way::Up, "0A 00 47 02 03 01 00 00 00 00"),
+        (Way::Up, "0A 00 44 03 01 80 02 03 04 02"),
+        (Way::Up, "0A 00 47 03 01 01 00 00 00 00"),
+    ] {
+        let answer = table.offer(way, &bytes(message), 301);
+        assert_eq!(answer, Ok(()), "{message}");
+    }
+    table.to_cells().to_vec()
+}
+
+/// The ports of that table.
+const PORTS: [u8; 8] = [0, 1, 2, 3, 4, 5, 16, 200];
+
+/// A table whose sixteen places are in use, by ports 100 to 115.
+fn full() -> Vec<u32> {
+    let mut table = Table::default();
+    for port in 100..116 {
+        let mut message = bytes("0F 00 04 00 01 26 00 00 00 00 10 00 00 00 10");
+        message[3] = port;
+        assert_eq!(table.offer(Way::Up, &message, 0), Ok(()), "port {port}");
+    }
+    table.to_cells().to_vec()
+}
+
+/// Cells that are no sound table: those that are unsound by hand, and other lengths.
+fn unsound() -> Vec<Vec<u32>> {
+    let damaged = SOUND.iter().filter(|example| !example.is_sound);
+    let mut tables: Vec<Vec<u32>> = damaged.map(|example| example.cells().to_vec()).collect();
+    for length in [0, 1, 2, 28, 29, 30, 448, 463, 465, 493, 928] {
+        tables.push(vec![0; length]);
+        let mut cells = table();
+        cells.resize(length, 0);
+        tables.push(cells);
+    }
+    assert!(tables.len() >= 80, "{} tables", tables.len());
+    tables
+}
+
+/// Messages that reading accepts and the table refuses, with the answer.
+const UNSUITABLE: [(u8, &str, u64); 12] = [
+    (UP, "05 00 45 63 00", refusal(10, 0)),
+    (DOWN, "05 00 21 63 00", refusal(10, 0)),
+    (UP, "0F 00 04 00 01 26 00 00 00 00 10 00 00 00 10", refusal(11, 0)),
+    (UP, "09 00 04 00 02 26 00 01 01", refusal(11, 0)),
+    (UP, "09 00 04 11 02 26 00 01 01", refusal(12, 0)),
+    (UP, "09 00 04 11 02 26 00 04 63", refusal(12, 0)),
+    (DOWN, "06 00 61 01 00 04", refusal(12, 0)),
+    (DOWN, "05 00 61 00 00", refusal(12, 0)),
+    (UP, "05 00 45 01 00", refusal(14, 0)),
+    (UP, "05 00 45 02 00", refusal(15, 0)),
+    (UP, "07 00 45 00 00 00 00", refusal(16, 0)),
+    (UP, "0D 00 45 03 00 00 80 3F 00 00 80 7F 00", refusal(16, 0)),
+];
+
+/// Messages that are accepted and have no value.
+const OTHERS: [(u8, &str); 3] = [
+    (DOWN, "03 00 12"),
+    (UP, "04 00 13 FF"),
+    (DOWN, "0A 00 41 01 02 01 00 00 00 01"),
+];
+
+/// The value of port 0: 5 and -3.
+const VALUE: &str = "08 00 45 00 05 00 FD FF";
+
+/// Values of port 3: 1.0 and 2.0, then with an infinity or a NaN as one of the two.
+const FLOATS: &str = "0C 00 45 03 00 00 80 3F 00 00 00 40";
+const LAST_INFINITE: &str = "0C 00 45 03 00 00 80 3F 00 00 80 7F";
+const FIRST_NAN: &str = "0C 00 45 03 00 00 C0 7F 00 00 00 40";
+
+/// All messages that a table call refuses, or that have no value, for calls that come to 9 before.
+fn all_messages() -> Vec<(u8, &'static str)> {
+    let refused = UNREAD
+        .iter()
+        .chain(&UNSUITABLE)
+        .map(|&(way, message, _)| (way, message));
+    let values = [VALUE, FLOATS, LAST_INFINITE, FIRST_NAN].map(|message| (UP, message));
+    refused.chain(OTHERS).chain(values).collect()
+}
+
+#[test]
+fn empty() {
+    let mut given = Given::default();
+    for cells in unsound()
+        .into_iter()
+        .chain([table(), full(), vec![u32::MAX; TABLE_CELLS]])
+    {
+        let name = format!("{} cells", cells.len());
+        let mut table = Lent::holding(&cells);
+        let answer = castanetash_empty(table.lend());
+        let expected = if cells.len() == TABLE_CELLS { 0 } else { NOT_SOUND };
+        given.expect(answer, expected, &name);
+        expect_written(answer, &table, &[0; TABLE_CELLS], &name);
+    }
+    for length in (0..1000).filter(|&length| length != TABLE_CELLS) {
+        let name = format!("{length} cells");
+        let mut table = Lent::filled(length);
+        given.expect(castanetash_empty(table.lend()), NOT_SOUND, &name);
+        table.expect_unchanged(&name);
+    }
+    given.expect_all("castanetash_empty", &[0, 9]);
+}
+
+#[test]
+fn offer() {
+    let mut given = Given::default();
+    let mut call = |cells: &[u32], way: u8, message: &str, expected: u64| {
+        let name = format!("`{message}`, way {way}, {} cells {cells:X?}", cells.len());
+        let (mut table, mut message) = (Lent::holding(cells), Lent::holding(&bytes(message)));
+        let answer = castanetash_offer(table.lend(), message.lend(), way, 7);
+        given.expect(answer, expected, &name);
+        message.expect_unchanged(&name);
+        // What an accepted message makes of a table is compared elsewhere; nothing beside it changes.
+        let after = table.contents().to_vec();
+        expect_written(answer, &table, &after, &name);
+        after
+    };
+    for cells in unsound() {
+        for (way, message) in all_messages() {
+            call(&cells, way, message, NOT_SOUND);
+        }
+    }
+    for (way, message, expected) in UNREAD {
+        for cells in [table(), full(), vec![0; TABLE_CELLS]] {
+            call(&cells, way, message, expected);
+        }
+    }
+    for (way, message, expected) in UNSUITABLE {
+        call(&table(), way, message, expected);
+    }
+    // The seventeenth port, plain and virtual; 11 and 12 come before.
+    call(
+        &full(),
+        UP,
+        "0F 00 04 00 01 26 00 00 00 00 10 00 00 00 10",
+        refusal(13, 0),
+    );
+    call(&full(), UP, "09 00 04 00 02 26 00 64 65", refusal(13, 0));
+    call(
+        &full(),
+        UP,
+        "0F 00 04 64 01 26 00 00 00 00 10 00 00 00 10",
+        refusal(11, 0),
+    );
+    call(&full(), UP, "09 00 04 00 02 26 00 64 64", refusal(12, 0));
+    // Accepted ones: most leave the table as it is, and a value does, whatever its floats are.
+    for message in [VALUE, FLOATS, LAST_INFINITE, FIRST_NAN] {
+        assert_eq!(call(&table(), UP, message, 0), table());
+    }
+    assert_eq!(call(&table(), DOWN, "03 00 12", 0), table());
+    assert_eq!(call(&table(), UP, "04 00 02 30", 0), [0; TABLE_CELLS]);
+    assert_ne!(call(&table(), DOWN, "0A 00 41 01 02 01 00 00 00 01", 0), table());
+    given.expect_all(
+        "castanetash_offer",
+        &[0, 1, 2, 3, 4, 5, 6, 7, 9, 10, 11, 12, 13, 14, 15, 16],
+    );
+}
+
+/// The lengths of a row that are tried where the refusal doesn't hang on it.
+const ANY_LENGTH: [usize; 7] = [0, 1, 5, 6, 7, 12, 96];
+
+#[test]
+fn dataset() {
+    let mut given = Given::default();
+    let mut call =
+        |cells: &[u32], way: u8, message: &str, number: usize, room: usize, expected: u64, written: &[u64]| {
+            let name = format!("dataset {number} of `{message}`, way {way}, {room} cells; table {cells:X?}");
+            let (mut table, mut message) = (Lent::holding(cells), Lent::holding(&bytes(message)));
+            let mut row = Lent::filled(room);
+            let answer = castanetash_dataset(table.lend(), message.lend(), way, number, row.lend());
+            given.expect(answer, expected, &name);
+            table.expect_unchanged(&name);
+            message.expect_unchanged(&name);
+            expect_written(answer, &row, written, &name);
+        };
+    // 9 comes before the message, the number and the row.
+    for cells in unsound() {
+        for (way, message) in all_messages() {
+            call(&cells, way, message, 0, 0, NOT_SOUND, &[]);
+            call(&cells, way, message, 99, DATASET_CELLS, NOT_SOUND, &[]);
+        }
+    }
+    let cells = table();
+    for room in ANY_LENGTH {
+        // So do the message's refusals.
+        for (way, message, expected) in UNREAD.into_iter().chain(UNSUITABLE) {
+            for number in [0, 1, 99, usize::MAX] {
+                call(&cells, way, message, number, room, expected, &[]);
+            }
+        }
+        let attached = "0F 00 04 00 01 26 00 00 00 00 10 00 00 00 10";
+        call(&full(), UP, attached, 0, room, refusal(13, 0), &[]);
+        // No dataset of that number, and no value at all. 17 comes before 18.
+        for number in [2, 3, 16, 255, 256, 1 << 16, 1 << 32, usize::MAX] {
+            call(&cells, UP, VALUE, number, room, refusal(17, 0), &[]);
+            call(&cells, UP, FIRST_NAN, number, room, refusal(17, 0), &[]);
+        }
+        for (way, message) in OTHERS {
+            call(&cells, way, message, 0, room, refusal(17, 0), &[]);
+        }
+        call(&cells, UP, FIRST_NAN, 0, room, refusal(18, 0), &[]);
+        call(&cells, UP, LAST_INFINITE, 1, room, refusal(18, 0), &[]);
+    }
+    for (message, number, row) in [
+        (VALUE, 0, [0, 5, 0, 0, 2, 301]),
+        (VALUE, 1, [0, -3_i64 as u64, 0, 0, 2, 301]),
+        (FLOATS, 0, [1, 0x3F80_0000, 3, 1, 0, 0]),
+        (FLOATS, 1, [1, 0x4000_0000, 3, 1, 0, 0]),
+        // The other one is not judged.
+        (LAST_INFINITE, 0, [1, 0x3F80_0000, 3, 1, 0, 0]),
+        (FIRST_NAN, 1, [1, 0x4000_0000, 3, 1, 0, 0]),
+    ] {
+        for room in 0..DATASET_CELLS {
+            call(&cells, UP, message, number, room, TOO_SHORT, &[]);
+        }
+        for room in DATASET_CELLS..DATASET_CELLS + 10 {
+            call(&cells, UP, message, number, room, DATASET_CELLS as u64, &row);
+        }
+    }
+    given.expect_all(
+        "castanetash_dataset",
+        &[0, 1, 2, 3, 4, 5, 6, 7, 9, 10, 11, 12, 13, 14, 15, 16, 17, 18, 255],
+    );
+}
+
+#[test]
+fn values() {
+    let mut given = Given::default();
+    let mut call = |cells: &[u32], way: u8, message: &str, room: usize, expected: u64, written: &[u64]| {
+        let name = format!("values of `{message}`, way {way}, {room} cells; table {cells:X?}");
+        let (mut table, mut message) = (Lent::holding(cells), Lent::holding(&bytes(message)));
+        let mut rows = Lent::filled(room);
+        let answer = castanetash_values(table.lend(), message.lend(), way, rows.lend());
+        given.expect(answer, expected, &name);
+        table.expect_unchanged(&name);
+        message.expect_unchanged(&name);
+        expect_written(answer, &rows, written, &name);
+    };
+    // 9 comes before the message and the rows.
+    for cells in unsound() {
+        for (way, message) in all_messages() {
+            call(&cells, way, message, 0, NOT_SOUND, &[]);
+            call(&cells, way, message, 96, NOT_SOUND, &[]);
+        }
+    }
+    let cells = table();
+    for room in ANY_LENGTH {
+        // So do the message's refusals.
+        for (way, message, expected) in UNREAD.into_iter().chain(UNSUITABLE) {
+            call(&cells, way, message, room, expected, &[]);
+        }
+        let attached = "0F 00 04 00 01 26 00 00 00 00 10 00 00 00 10";
+        call(&full(), UP, attached, room, refusal(13, 0), &[]);
+        for (way, message) in OTHERS {
+            call(&cells, way, message, room, refusal(17, 0), &[]);
+        }
+        // Any dataset that isn't finite, even if the rows before it would be long enough.
+        call(&cells, UP, FIRST_NAN, room, refusal(18, 0), &[]);
+        call(&cells, UP, LAST_INFINITE, room, refusal(18, 0), &[]);
+    }
+    for (message, rows) in [
+        (VALUE, [0, 5, 0, 0, 2, 301, 0, -3_i64 as u64, 0, 0, 2, 301]),
+        (FLOATS, [1, 0x3F80_0000, 3, 1, 0, 0, 1, 0x4000_0000, 3, 1, 0, 0]),
+    ] {
+        for room in 0..rows.len() {
+            call(&cells, UP, message, room, TOO_SHORT, &[]);
+        }
+        for room in rows.len()..rows.len() + 10 {
+            call(&cells, UP, message, room, 2, &rows);
+        }
+    }
+    given.expect_all(
+        "castanetash_values",
+        &[0, 1, 2, 3, 4, 5, 6, 7, 9, 10, 11, 12, 13, 14, 15, 16, 17, 18, 255],
+    );
+}
+
+#[test]
+fn ports() {
+    let mut given = Given::default();
+    let mut call = |cells: &[u32], room: usize, expected: u64, written: &[u8]| {
+        let name = format!("{room} bytes for ports; table {cells:X?}");
+        // No byte is the port that is to stand there.
+        let mut filling = vec![0xA5; room];
+        for (byte, port) in filling.iter_mut().zip(written) {
+            *byte = !port;
+        }
+        let (mut table, mut ports) = (Lent::holding(cells), Lent::holding(&filling));
+        let answer = castanetash_ports(table.lend(), ports.lend());
+        given.expect(answer, expected, &name);
+        table.expect_unchanged(&name);
+        expect_written(answer, &ports, written, &name);
+    };
+    for cells in unsound() {
+        for room in 0..20 {
+            call(&cells, room, NOT_SOUND, &[]);
+        }
+    }
+    let all: Vec<u8> = (100..116).collect();
+    for (cells, ports) in [(table(), &PORTS[..]), (full(), &all), (vec![0; TABLE_CELLS], &[])] {
+        for room in 0..ports.len() {
+            call(&cells, room, TOO_SHORT, &[]);
+        }
+        for room in ports.len()..ports.len() + 10 {
+            call(&cells, room, ports.len() as u64, ports);
+        }
+    }
+    given.expect_all("castanetash_ports", &[0, 9, 255]);
+}
+
+#[test]
+fn port() {
+    let mut given = Given::default();
+    let mut call = |cells: &[u32], port: u8, room: usize, expected: u64, written: &[u64]| {
+        let name = format!("port {port}, {room} cells; table {cells:X?}");
+        let (mut table, mut row) = (Lent::holding(cells), Lent::filled(room));
+        let answer = castanetash_port(table.lend(), port, row.lend());
+        given.expect(answer, expected, &name);
+        table.expect_unchanged(&name);
+        expect_written(answer, &row, written, &name);
+    };
+    for cells in unsound() {
+        for room in 0..20 {
+            call(&cells, 0, room, NOT_SOUND, &[]);
+            call(&cells, 99, room, NOT_SOUND, &[]);
+        }
+    }
+    for (port, row) in [
+        (0, [1, 0x26, 0, 0, 2, 1, 0, 10, 1, 1, 0, 10, 1, 301]),
+        (1, [1, 0x26, 0, 0, 0, 0, 0, 0, 0, 0, 0, 0, 0, 0]),
+        (2, [1, 0x26, 0, 0, 0, 0, 0, 0, 0, 1, 3, 1, 0, 0]),
+        (5, [2, 0x26, 16, 0, 0, 0, 0, 0, 0, 0, 0, 0, 0, 0]),
+        (16, [3, 0x27, 4, 5, 0, 0, 0, 0, 0, 0, 0, 0, 0, 0]),
+        // An absent port is no refusal.
+        (99, [0; PORT_CELLS]),
+    ] {
+        for room in 0..PORT_CELLS {
+            call(&table(), port, room, TOO_SHORT, &[]);
+        }
+        for room in PORT_CELLS..PORT_CELLS + 10 {
+            call(&table(), port, room, PORT_CELLS as u64, &row);
+        }
+    }
+    given.expect_all("castanetash_port", &[0, 9, 255]);
+}
+
+#[test]
+fn format() {
+    let mut given = Given::default();
+    let mut call = |cells: &[u32], port: u8, mode: u8, room: usize, expected: u64, written: &[u64]| {
+        let name = format!("port {port}, mode {mode}, {room} cells; table {cells:X?}");
+        let (mut table, mut row) = (Lent::holding(cells), Lent::filled(room));
+        let answer = castanetash_format(table.lend(), port, mode, row.lend());
+        given.expect(answer, expected, &name);
+        table.expect_unchanged(&name);
+        expect_written(answer, &row, written, &name);
+    };
+    for cells in unsound() {
+        for room in 0..10 {
+            call(&cells, 0, 0, room, NOT_SOUND, &[]);
+            call(&cells, 99, 99, room, NOT_SOUND, &[]);
+        }
+    }
+    for (port, mode, row) in [
+        (0, 0, [1, 2, 1, 5, 1]),
+        (3, 1, [1, 2, 3, 4, 2]),
+        // A mode without a format, one that no port has, and an absent port are no refusals.
+        (0, 1, [0; FORMAT_CELLS]),
+        (0, 16, [0; FORMAT_CELLS]),
+        (0, 255, [0; FORMAT_CELLS]),
+        (99, 0, [0; FORMAT_CELLS]),
+    ] {
+        for room in 0..FORMAT_CELLS {
+            call(&table(), port, mode, room, TOO_SHORT, &[]);
+        }
+        for room in FORMAT_CELLS..FORMAT_CELLS + 10 {
+            call(&table(), port, mode, room, FORMAT_CELLS as u64, &row);
+        }
+    }
+    given.expect_all("castanetash_format", &[0, 9, 255]);
+}
+
+/// A log of three records: a value, one that is refused, and one that empties the table.
+fn log() -> Vec<u8> {
+    [
+        log_record(1, Way::Up, &bytes(VALUE), 7),
+        log_record(2, Way::Up, &bytes("05 00 45 01 00"), 7),
+        log_record(3, Way::Up, &bytes("04 00 02 30"), 7),
+    ]
+    .concat()
+}
+
+/// A block's answer: the table, the first two totals and the text.
+struct Block<'a> {
+    table: &'a [u32],
+    totals: [u64; 2],
+    text: &'a str,
+}
+
+#[test]
+fn read_block() {
+    let mut given = Given::default();
+    let mut call = |cells: &[u32], totals: &[u64], log: &[u8], room: usize, expected: u64, after: Block| {
+        let name = format!(
+            "totals {totals:?}, {} bytes of log, {room} bytes of text; table {cells:X?}",
+            log.len()
+        );
+        let (mut table, mut totals) = (Lent::holding(cells), Lent::holding(totals));
+        let (mut log, mut text) = (Lent::holding(log), Lent::filled(room));
+        let answer = castanetash_read_block(table.lend(), totals.lend(), log.lend(), text.lend());
+        given.expect(answer, expected, &name);
+        log.expect_unchanged(&name);
+        expect_written(answer, &table, after.table, &name);
+        expect_written(answer, &totals, &after.totals, &name);
+        expect_written(answer, &text, after.text.as_bytes(), &name);
+    };
+    let refused = || Block {
+        table: &[],
+        totals: [0; 2],
+        text: "",
+    };
+    // 9 comes before the totals.
+    for cells in unsound() {
+        for totals in 0..4 {
+            for room in [0, 2000] {
+                call(&cells, &[0; 4][..totals], &log(), room, NOT_SOUND, refused());
+                call(&cells, &[u64::MAX; 4][..totals], &[], room, NOT_SOUND, refused());
+            }
+        }
+    }
+    // Too few totals, with and without something to work through.
+    for totals in 0..TOTALS_CELLS {
+        for log in [log(), log()[..LOG_RECORD - 1].to_vec(), Vec::new()] {
+            for room in [0, LINE_ROOM - 1, LINE_ROOM, 2000] {
+                call(&table(), &[5; 2][..totals], &log, room, TOO_SHORT, refused());
+            }
+        }
+    }
+    // Accepted: as many records as there is room for, with totals and text that have more.
+    let lines = ["11 0 0 0 2 301 5 -3\n", "12 14\n", "13 0\n"];
+    let first = lines[0].len();
+    for more in 0..3 {
+        let totals = [10, 4, 8, 9];
+        let totals = &totals[..2 + more];
+        for (records, last_piece, room) in [
+            (0, 0, 0),
+            (0, 0, LINE_ROOM - 1),
+            (1, 0, LINE_ROOM),
+            (1, 0, LINE_ROOM + first - 1),
+            (2, 0, LINE_ROOM + first),
+            (3, 0, LINE_ROOM + first + 6),
+            (3, 0, 3000),
+            // What isn't a whole record is left.
+            (3, 1, 3000),
+            (3, LOG_RECORD - 1, 3000),
+        ] {
+            let mut log = log();
+            log.extend(vec![0xFF; last_piece]);
+            let text = lines[..records].concat();
+            let table_after = if records == 3 { vec![0; TABLE_CELLS] } else { table() };
+            let after = Block {
+                table: &table_after,
+                totals: [10 + records as u64, if records >= 2 { 5 } else { 4 }],
+                text: &text,
+            };
+            call(&table(), totals, &log, room, text.len() as u64, after);
+        }
+    }
+    // No log, or less than a record.
+    for length in [0, 1, LOG_RECORD - 1] {
+        let after = Block {
+            table: &table(),
+            totals: [1, 1],
+            text: "",
+        };
+        call(&table(), &[1, 1], &log()[..length], 2000, 0, after);
+    }
+    // A total that can count no more is no refusal.
+    for totals in [[u64::MAX, 0], [0, u64::MAX], [u64::MAX; 2]] {
+        let after = Block {
+            table: &table(),
+            totals,
+            text: "",
+        };
+        call(&table(), &totals, &log(), 2000, 0, after);
+    }
+    given.expect_all("castanetash_read_block", &[0, 9, 255]);
+}
