@@ -1,37 +1,38 @@
 // A port table, whose cells the caller lends.
-use crate::fill::fill;
 use crate::way::way_of;
+use answers::refusal;
 use queries::format;
 use queries::port;
-use table::dataset;
+use queries::ports;
+use queries::present::Ports;
 use table::empty;
 use table::offer;
-use table_cells::dataset_row;
-use table_cells::format_row;
 use table_cells::outcome_number;
-use table_cells::port_row;
+use table_cells::put_format;
+use table_cells::put_port;
 ghost use mathlib.Core.Path.{_≡_};
+ghost use lib.ListN.{length};
 ghost use Rattle.rules.specs.Answer.{outcome};
-ghost use Rattle.rules.specs.Offer.{cellsAfter, datasetByCells, offerByCells};
+ghost use Rattle.rules.specs.Offer.{cellsAfter, offerByCells};
+ghost use Rattle.answers.specs.Call.{callNumber, mapped, plainNumber, rowAfter, rowNumber};
 ghost use Rattle.message_rows.specs.Row.{wayOf};
 ghost use Rattle.queries.specs.FormatAnswer.{formatByCells};
 ghost use Rattle.stores.specs.Stores.{emptied};
 ghost use Rattle.table.specs.OfferAnswer.{emptyAnswer};
 ghost use Rattle.queries.specs.PortAnswer.{portByCells};
-ghost use Rattle.table_cells.specs.Rows.{datasetRow, formatRow, outcomeNumber, portRow};
-ghost use Rattle.capi.specs.Filled.{filledBy, filledWith};
+ghost use Rattle.queries.specs.PortsAnswer.{portsByCells};
+ghost use Rattle.queries.specs.PortsAnswer as PortsAnswer;
+ghost use Rattle.table_cells.specs.Rows.{formatRow, portRow};
 
-// Makes an empty table of a table's number of cells. Returns 0; another number of cells is 9 times 2 ^ 32, and
-// nothing changes.
+// Makes an empty table of a table's number of cells.
 #[no_mangle]
 pub extern "C" fn castanetash_empty(table: &mut [u32]) -> u64
-    ensures { λ r. ⌜ (r ≡ outcomeNumber (emptyAnswer (now (table .entry)))) × (now (table .exit) ≡ emptied (now (table .entry))) ⌝ }
+    ensures { λ r. ⌜ (r ≡ plainNumber (emptyAnswer (now (table .entry)))) × (now (table .exit) ≡ emptied (now (table .entry))) ⌝ }
 {
     outcome_number(empty(table))
 }
 
-// Offers a message with its experiment number to a table. Returns 0 where it is accepted; else the refusal number times 2 ^ 32
-// plus the place, and nothing changes.
+// Offers a message with its experiment number to a table.
 #[no_mangle]
 pub extern "C" fn castanetash_offer(
     table: &mut [u32],
@@ -39,48 +40,41 @@ pub extern "C" fn castanetash_offer(
     way: u8,
     experiment: u16,
 ) -> u64
-    ensures { λ r. ⌜ (r ≡ outcomeNumber (outcome (offerByCells (now (table .entry)) (record { way = wayOf way; bytes = now (message .entry); experiment = experiment })))) × (now (table .exit) ≡ cellsAfter (now (table .entry)) (record { way = wayOf way; bytes = now (message .entry); experiment = experiment })) ⌝ }
+    ensures { λ r. ⌜ (r ≡ plainNumber (outcome (offerByCells (now (table .entry)) (record { way = wayOf way; bytes = now (message .entry); experiment = experiment })))) × (now (table .exit) ≡ cellsAfter (now (table .entry)) (record { way = wayOf way; bytes = now (message .entry); experiment = experiment })) ⌝ }
 {
     outcome_number(offer(table, message, way_of(way), experiment))
 }
 
-// Hands out one dataset of a message, in 8 cells. Returns 8; 0 where there are fewer cells, of which
-// none changes.
-#[no_mangle]
-pub extern "C" fn castanetash_dataset(
-    table: &[u32],
-    message: &[u8],
-    way: u8,
-    number: usize,
-    cells: &mut [u64],
-) -> usize
-    ensures { λ r. ⌜ (r ≡ filledBy (datasetRow (datasetByCells (now (table .entry)) (wayOf way) (now (message .entry)) number)) (now (cells .entry))) × (now (cells .exit) ≡ filledWith (datasetRow (datasetByCells (now (table .entry)) (wayOf way) (now (message .entry)) number)) (now (cells .entry))) ⌝ }
+// An answer on the ports present.
+fn ports_number(ports: Ports) -> u64
+    ensures { λ r. ⌜ r ≡ callNumber (PortsAnswer.answerOf ports) ⌝ }
 {
-    let row = dataset_row(dataset(table, message, way_of(way), number));
-    fill(cells, &row)
+    match ports {
+        Ports::Present { count } => count as u64,
+        Ports::Refused { number, place } => refusal(number, place),
+    }
 }
 
-// What the table says of a port, in 15 cells. Returns 15; 0 where there are fewer cells, of which
-// none changes.
+// The ports present, in ascending order, a byte each.
 #[no_mangle]
-pub extern "C" fn castanetash_port(table: &[u32], number: u8, cells: &mut [u64]) -> usize
-    ensures { λ r. ⌜ (r ≡ filledBy (portRow (portByCells (now (table .entry)) number)) (now (cells .entry))) × (now (cells .exit) ≡ filledWith (portRow (portByCells (now (table .entry)) number)) (now (cells .entry))) ⌝ }
+pub extern "C" fn castanetash_ports(table: &[u32], list: &mut [u8]) -> u64
+    ensures { λ r. ⌜ (r ≡ rowNumber (now (list .entry)) (portsByCells (now (table .entry)))) × (now (list .exit) ≡ rowAfter (now (list .entry)) (portsByCells (now (table .entry)))) ⌝ }
 {
-    let row = port_row(port(table, number));
-    fill(cells, &row)
+    ports_number(ports(table, list))
 }
 
-// What the table says of the format of a port's mode, in 6 cells. Returns 6; 0 where there are fewer
-// cells, of which none changes.
+// What the table says of a port, in 14 cells.
 #[no_mangle]
-pub extern "C" fn castanetash_format(
-    table: &[u32],
-    number: u8,
-    mode: u8,
-    cells: &mut [u64],
-) -> usize
-    ensures { λ r. ⌜ (r ≡ filledBy (formatRow (formatByCells (now (table .entry)) number mode)) (now (cells .entry))) × (now (cells .exit) ≡ filledWith (formatRow (formatByCells (now (table .entry)) number mode)) (now (cells .entry))) ⌝ }
+pub extern "C" fn castanetash_port(table: &[u32], number: u8, row: &mut [u64]) -> u64
+    ensures { λ r. ⌜ (r ≡ rowNumber (now (row .entry)) (mapped portRow (portByCells (now (table .entry)) number))) × (now (row .exit) ≡ rowAfter (now (row .entry)) (mapped portRow (portByCells (now (table .entry)) number))) ⌝ }
 {
-    let row = format_row(format(table, number, mode));
-    fill(cells, &row)
+    put_port(row, port(table, number))
+}
+
+// What the table says of the format of a port's mode, in 5 cells.
+#[no_mangle]
+pub extern "C" fn castanetash_format(table: &[u32], number: u8, mode: u8, row: &mut [u64]) -> u64
+    ensures { λ r. ⌜ (r ≡ rowNumber (now (row .entry)) (mapped formatRow (formatByCells (now (table .entry)) number mode))) × (now (row .exit) ≡ rowAfter (now (row .entry)) (mapped formatRow (formatByCells (now (table .entry)) number mode))) ⌝ }
+{
+    put_format(row, format(table, number, mode))
 }

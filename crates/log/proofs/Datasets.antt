@@ -19,7 +19,7 @@ use Rattle.rules.specs.Answer as Answer
 use Rattle.rules.specs.Answer.{Answer}
 use Rattle.rules.specs.Dataset.{Dataset, Number, whole, float, bitsAt, wholeAt, datasetOf}
 use Rattle.rules.specs.Datasets.{withDataset, followedBy, datasetsFrom, ifFirst, allDatasets}
-use Rattle.log.specs.Dataset.{printedAt, numbersAt, finiteAt, finiteFrom}
+use Rattle.log.specs.Dataset.{printedAt, numbersAt, finiteAt, finiteFrom, numberAt, datasetAt, datasetsAt}
 use Rattle.log.specs.Line.{refused, values, printedNumber, printedNumbers, withDatasets, valueLine}
 
 -- whole numbers are finite
@@ -37,13 +37,10 @@ module _ (port mode state experiment : ℕ) (f : Format) (bytes : List ℕ) wher
 
   -- ---- one dataset: its number, or 18
 
-  abbrev numberAt : ℕ → Number
-  numberAt k = cond (eqb (f .kind) 3) (float (ofBits binary32 (bitsAt 4 bytes k))) (whole (wholeAt (f .kind) bytes k))
+  abbrev at : ℕ → Dataset
+  at = datasetAt port mode state experiment (f .kind) bytes
 
-  abbrev pub datasetAt : ℕ → Dataset
-  datasetAt k = record { port = port; mode = mode; state = state; experiment = experiment; value = numberAt k }
-
-  pub handed : (k : ℕ) → k < f .datasets → dataset k ≡ cond (finiteAt (f .kind) bytes k) (Answer.accepted (datasetAt k)) (Answer.refused 18 0)
+  pub handed : (k : ℕ) → k < f .datasets → dataset k ≡ cond (finiteAt (f .kind) bytes k) (Answer.accepted (at k)) (Answer.refused 18 0)
   unfolding datasetOf
   handed k h =
       ⊎-elim
@@ -53,13 +50,11 @@ module _ (port mode state experiment : ℕ) (f : Format) (bytes : List ℕ) wher
 
   -- ---- all of them
 
-  -- so many from one on
-  abbrev pub datasetsAt : ℕ → ℕ → List Dataset
-  datasetsAt k zero = []
-  datasetsAt k (suc n) = datasetAt k ∷ datasetsAt (suc k) n
+  abbrev from : ℕ → ℕ → List Dataset
+  from = datasetsAt port mode state experiment (f .kind) bytes
 
   abbrev gathered : ℕ → ℕ → Answer (List Dataset)
-  gathered k n = cond (finiteFrom (f .kind) bytes k n) (Answer.accepted (datasetsAt k n)) (Answer.refused 18 0)
+  gathered k n = cond (finiteFrom (f .kind) bytes k n) (Answer.accepted (from k n)) (Answer.refused 18 0)
 
   joined : (b : Bool) (d : Dataset) (ds : List Dataset) → withDataset d (cond b (Answer.accepted ds) (Answer.refused 18 0)) ≡ cond b (Answer.accepted (d ∷ ds)) (Answer.refused 18 0)
   joined true d ds = refl
@@ -72,12 +67,12 @@ module _ (port mode state experiment : ℕ) (f : Format) (bytes : List ℕ) wher
       ap (λ (y : Answer Dataset). followedBy y rest) (handed k h)
       ∙ ⊎-elim
       (λ (x : finiteAt (f .kind) bytes k ≡ true).
-      ap (λ (b : Bool). followedBy (cond b (Answer.accepted (datasetAt k)) (Answer.refused 18 0)) rest) x
-      ∙ joined (finiteFrom (f .kind) bytes (suc k) n) (datasetAt k) (datasetsAt (suc k) n)
-      ∙ sym (ap (λ (b : Bool). cond (b && finiteFrom (f .kind) bytes (suc k) n) (Answer.accepted (datasetsAt k (suc n))) (Answer.refused 18 0)) x))
+      ap (λ (b : Bool). followedBy (cond b (Answer.accepted (at k)) (Answer.refused 18 0)) rest) x
+      ∙ joined (finiteFrom (f .kind) bytes (suc k) n) (at k) (from (suc k) n)
+      ∙ sym (ap (λ (b : Bool). cond (b && finiteFrom (f .kind) bytes (suc k) n) (Answer.accepted (from k (suc n))) (Answer.refused 18 0)) x))
       (λ (x : finiteAt (f .kind) bytes k ≡ false).
-      ap (λ (b : Bool). followedBy (cond b (Answer.accepted (datasetAt k)) (Answer.refused 18 0)) rest) x
-      ∙ sym (ap (λ (b : Bool). cond (b && finiteFrom (f .kind) bytes (suc k) n) (Answer.accepted (datasetsAt k (suc n))) (Answer.refused 18 0)) x))
+      ap (λ (b : Bool). followedBy (cond b (Answer.accepted (at k)) (Answer.refused 18 0)) rest) x
+      ∙ sym (ap (λ (b : Bool). cond (b && finiteFrom (f .kind) bytes (suc k) n) (Answer.accepted (from k (suc n))) (Answer.refused 18 0)) x))
       (which (finiteAt (f .kind) bytes k))
 
   all-from : (most k n : ℕ) → n ≤ most → k + n ≡ f .datasets → datasetsFrom most dataset k ≡ gathered k n
@@ -95,26 +90,26 @@ module _ (port mode state experiment : ℕ) (f : Format) (bytes : List ℕ) wher
     begun true d all h = refl
     begun false d all h = sym (h refl)
 
-    pub all-datasets : allDatasets dataset ≡ cond finite (Answer.accepted (datasetsAt 0 (f .datasets))) (Answer.refused 18 0)
+    pub all-datasets : allDatasets dataset ≡ cond finite (Answer.accepted (from 0 (f .datasets))) (Answer.refused 18 0)
     unfolding allDatasets
     all-datasets =
         let n : ℕ = f .datasets - 1 in
         let count : f .datasets ≡ suc n = omega arith in
         let all : datasetsFrom mostDatasets dataset 0 ≡ gathered 0 (f .datasets) = all-from mostDatasets 0 (f .datasets) few (omega arith) in
         ap (λ (x : Answer Dataset). ifFirst x (datasetsFrom mostDatasets dataset 0)) (handed 0 some-there)
-        ∙ begun (finiteAt (f .kind) bytes 0) (datasetAt 0) (datasetsFrom mostDatasets dataset 0)
-        (λ (x : finiteAt (f .kind) bytes 0 ≡ false). all ∙ ap (gathered 0) count ∙ ap (λ (b : Bool). cond (b && finiteFrom (f .kind) bytes 1 n) (Answer.accepted (datasetsAt 0 (suc n))) (Answer.refused 18 0)) x)
+        ∙ begun (finiteAt (f .kind) bytes 0) (at 0) (datasetsFrom mostDatasets dataset 0)
+        (λ (x : finiteAt (f .kind) bytes 0 ≡ false). all ∙ ap (gathered 0) count ∙ ap (λ (b : Bool). cond (b && finiteFrom (f .kind) bytes 1 n) (Answer.accepted (from 0 (suc n))) (Answer.refused 18 0)) x)
         ∙ all
 
     -- ---- the line
 
     pub line-18 : finite ≡ false → valueLine dataset ≡ refused 18
     unfolding valueLine
-    line-18 e = ap (withDatasets (dataset 0)) (all-datasets ∙ ap (λ (b : Bool). cond b (Answer.accepted (datasetsAt 0 (f .datasets))) (Answer.refused 18 0)) e)
+    line-18 e = ap (withDatasets (dataset 0)) (all-datasets ∙ ap (λ (b : Bool). cond b (Answer.accepted (from 0 (f .datasets))) (Answer.refused 18 0)) e)
 
     -- floats have 32 bits
     module _ (small : eqb (f .kind) 3 ≡ true → (k : ℕ) → k < f .datasets → bitsAt 4 bytes k < 4294967296) where
-      printed : (k : ℕ) → k < f .datasets → finiteAt (f .kind) bytes k ≡ true → printedNumber (numberAt k) ≡ printedAt (f .kind) bytes k
+      printed : (k : ℕ) → k < f .datasets → finiteAt (f .kind) bytes k ≡ true → printedNumber (numberAt (f .kind) bytes k) ≡ printedAt (f .kind) bytes k
       printed k h e =
           let bits : ℕ = bitsAt 4 bytes k in
           ⊎-elim
@@ -127,7 +122,7 @@ module _ (port mode state experiment : ℕ) (f : Format) (bytes : List ℕ) wher
           ap (λ (b : Bool). printedNumber (cond b (float (ofBits binary32 bits)) (whole (wholeAt (f .kind) bytes k)))) x ∙ sym (ap (λ (b : Bool). cond b (pos bits) (wholeAt (f .kind) bytes k)) x))
           (which (eqb (f .kind) 3))
 
-      all-printed : (k n : ℕ) → k + n ≤ f .datasets → finiteFrom (f .kind) bytes k n ≡ true → printedNumbers (datasetsAt k n) ≡ numbersAt (f .kind) bytes k n
+      all-printed : (k n : ℕ) → k + n ≤ f .datasets → finiteFrom (f .kind) bytes k n ≡ true → printedNumbers (from k n) ≡ numbersAt (f .kind) bytes k n
       all-printed k zero h e = refl
       all-printed k (suc n) h e = λ i.
           printed k (omega arith) (and-left (finiteAt (f .kind) bytes k) (finiteFrom (f .kind) bytes (suc k) n) e) i
@@ -139,6 +134,6 @@ module _ (port mode state experiment : ℕ) (f : Format) (bytes : List ℕ) wher
           let n : ℕ = f .datasets - 1 in
           let count : f .datasets ≡ suc n = omega arith in
           let first-finite : finiteAt (f .kind) bytes 0 ≡ true = and-left (finiteAt (f .kind) bytes 0) (finiteFrom (f .kind) bytes 1 n) (sym (ap (finiteFrom (f .kind) bytes 0) count) ∙ e) in
-          let one : dataset 0 ≡ Answer.accepted (datasetAt 0) = handed 0 some-there ∙ ap (λ (b : Bool). cond b (Answer.accepted (datasetAt 0)) (Answer.refused 18 0)) first-finite in
-          let all : allDatasets dataset ≡ Answer.accepted (datasetsAt 0 (f .datasets)) = all-datasets ∙ ap (λ (b : Bool). cond b (Answer.accepted (datasetsAt 0 (f .datasets))) (Answer.refused 18 0)) e in
+          let one : dataset 0 ≡ Answer.accepted (at 0) = handed 0 some-there ∙ ap (λ (b : Bool). cond b (Answer.accepted (at 0)) (Answer.refused 18 0)) first-finite in
+          let all : allDatasets dataset ≡ Answer.accepted (from 0 (f .datasets)) = all-datasets ∙ ap (λ (b : Bool). cond b (Answer.accepted (from 0 (f .datasets))) (Answer.refused 18 0)) e in
           (λ i. withDatasets (one i) (all i)) ∙ ap (values port mode state experiment) (all-printed 0 (f .datasets) (omega arith) e)

@@ -1,0 +1,50 @@
+// Reading one message, and writing one.
+use crate::way::way_of;
+use answers::fill;
+use answers::refusal;
+use codec::open_part;
+use codec::read;
+use message_rows::message_row;
+use protocol::Reading;
+ghost use mathlib.Core.Path.{_≡_};
+ghost use Prim.Native.Nat.{_≤_};
+ghost use Rattle.protocol.specs.Answer.{answerOf};
+ghost use Rattle.answers.specs.Call.{rowAfter, rowNumber};
+ghost use Rattle.message_rows.specs.Row.{openStart, wayOf};
+ghost use Rattle.castanetash.specs.Answers.{readAnswer, readingRow};
+
+// Where the last `count` of `size` bytes start; 0 where there are none.
+fn open_start(size: u64, count: u64) -> u64
+    requires { ⌜ count ≤ size ⌝ }
+    ensures { λ r. ⌜ r ≡ openStart size count ⌝ }
+{
+    if count == 0 { 0 } else { size - count }
+}
+
+// The row of a reading of a message of `size` bytes, the last `count` of which are open.
+fn put_reading(row: &mut [u64], reading: Reading, size: u64, count: u64) -> u64
+    requires { ⌜ count ≤ size ⌝ }
+    ensures { λ r. ⌜ (r ≡ rowNumber (now (row .entry)) (readingRow size count (answerOf reading))) × (now (row .exit) ≡ rowAfter (now (row .entry)) (readingRow size count (answerOf reading))) ⌝ }
+{
+    match reading {
+        Reading::Refused { number, place } => refusal(number, place),
+        Reading::Accepted(m) => {
+            let mut cells = message_row(m);
+            cells[1] = open_start(size, count);
+            cells[2] = count;
+            fill(row, &cells)
+        }
+    }
+}
+
+// Reads one message (`way`: 0 down, else up) into a row of 16 cells: form (from 1), where the open
+// bytes start, how many they are, how many values, the values from left to right.
+#[no_mangle]
+pub extern "C" fn castanetash_read(message: &[u8], way: u8, row: &mut [u64]) -> u64
+    ensures { λ r. ⌜ (r ≡ rowNumber (now (row .entry)) (readAnswer (wayOf way) (now (message .entry)))) × (now (row .exit) ≡ rowAfter (now (row .entry)) (readAnswer (wayOf way) (now (message .entry)))) ⌝ }
+{
+    let w = way_of(way);
+    let reading = read(message, w);
+    let open = open_part(message, w).len();
+    put_reading(row, reading, message.len() as u64, open as u64)
+}
