@@ -10,7 +10,7 @@ pub type Filled<const N: usize> = Result<[u64; N], u64>;
 pub const NOT_SOUND: u64 = 9 << 32;
 
 /// The answer where a lent row is too short, and to a row that is no message's own.
-pub const TOO_SHORT: u64 = 255 << 32;
+pub const BAD_ROW: u64 = 255 << 32;
 
 /// An answer: how much was written, or a refusal.
 pub fn answer(outcome: Result<usize, Refusal>) -> u64 {

@@ -24,8 +24,13 @@ impl Filling for u32 {
 
 impl Filling for u64 {
     fn filling(place: usize) -> u64 {
-        0xA5A5_0000_0000_5A00 | place as u64
+        cell_filling(place)
     }
+}
+
+/// What stands in a cell of a row beforehand. No answer has such numbers.
+pub(crate) const fn cell_filling(place: usize) -> u64 {
+    0xA5A5_0000_0000_5A00 | place as u64
 }
 
 /// Memory that is lent to the product, with a margin on both sides, and what it held beforehand.

@@ -14,7 +14,7 @@ mod table;
 mod tally;
 mod writing;
 
-pub use answer::{answer, number, refused, row_answer, Filled, NOT_SOUND, TOO_SHORT};
+pub use answer::{number, refused, row_answer, Filled, BAD_ROW, NOT_SOUND};
 pub use castanetash::{DATASET_CELLS, FORMAT_CELLS, PORT_CELLS, ROW_CELLS, TOTALS_CELLS};
 pub use lent::{Filling, Lent};
 pub use product::{
@@ -22,9 +22,7 @@ pub use product::{
     castanetash_read, castanetash_read_block, castanetash_values, castanetash_write, read, way_byte, write,
 };
 pub use program::{logread, logread_by_shell, logread_path, printed, printed_in_pieces, root, run, wanted};
-pub use table::{
-    dataset_cells, format_cells, offer_answer, port_cells, values_cells, LentTable, TableTally, Trio, MOST_VALUES_CELLS,
-};
+pub use table::{dataset_cells, format_cells, offer_answer, port_cells, values_cells, LentTable, TableTally, Trio};
 pub use tally::Tally;
 pub use writing::{any_call, edges, near_call, outside, valid_calls, Call, WriteTally, OUTPUT};
 pub use yardstick::traffic::{known_types, plausible};

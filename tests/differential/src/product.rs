@@ -4,6 +4,7 @@
 use yardstick::{Row, Way};
 
 use crate::castanetash::{raw, ROW_CELLS};
+use crate::lent::cell_filling;
 
 /// The product's reading of one message. Way 0 is down, any other up.
 #[allow(unsafe_code)]
@@ -18,7 +19,7 @@ const FILLING: [u64; ROW_CELLS + 2] = {
     let mut filling = [0; ROW_CELLS + 2];
     let mut place = 0;
     while place < filling.len() {
-        filling[place] = 0xA5A5_0000_0000_5A00 | place as u64;
+        filling[place] = cell_filling(place);
         place += 1;
     }
     filling

@@ -95,11 +95,11 @@ impl Blocks {
 /// A log of so many records, of one sort or the other, with bytes before the message now and then that aren't right.
 fn made_log(seed: u64, records: u64) -> Vec<u8> {
     let mut log = Vec::new();
-    if seed % 2 == 0 {
-        bench_log(seed, records, &mut log).expect("writing to memory");
-    } else {
-        every_log(seed, records, &mut log).expect("writing to memory");
-    }
+    let made = match seed % 2 {
+        0 => bench_log(seed, records, &mut log),
+        _ => every_log(seed, records, &mut log),
+    };
+    made.expect("writing to memory");
     let mut random = Random::new(!seed);
     for record in log.chunks_exact_mut(LOG_RECORD) {
         if random.once_in(24) {

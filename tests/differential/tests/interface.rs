@@ -1,7 +1,6 @@
 //! The edges of reading: how many cells are lent for the row, and how the way is told.
 
-use differential::castanetash::{answer, Refused};
-use differential::{castanetash_read, number, read, row_answer, Filling, Lent, ROW_CELLS, TOO_SHORT};
+use differential::{castanetash_read, read, row_answer, Filling, Lent, BAD_ROW, ROW_CELLS};
 use yardstick::examples::{BENCH, FORMS, ORDER};
 use yardstick::{decode, Way};
 
@@ -26,7 +25,7 @@ fn only_the_first_cells_change() {
                     accepted += 1;
                 }
                 Ok(_) => {
-                    assert_eq!(answer, TOO_SHORT, "{name}");
+                    assert_eq!(answer, BAD_ROW, "{name}");
                     row.expect_unchanged(&name);
                     too_short += 1;
                 }
@@ -80,7 +79,7 @@ fn no_row_has_the_filling() {
     }
 }
 
-/// The numbers of the declarations for Rust, and how an answer of the product is taken apart there.
+/// The numbers of the declarations for Rust.
 #[test]
 fn declarations() {
     use differential::castanetash as declared;
@@ -98,15 +97,4 @@ fn declarations() {
         [declared::RECORD, declared::LINE_ROOM],
         [yardstick::LOG_RECORD, yardstick::LINE_ROOM]
     );
-    for written in [0, 1, 16, 127, 65_535, u32::MAX] {
-        assert_eq!(answer(written.into()), Ok(written as usize));
-    }
-    for refused in [1, 7, 9, 19, 255] {
-        for place in [0, 2, 126] {
-            let refusal = Refused { number: refused, place };
-            let by_product = u64::from(refused) << 32 | u64::from(place);
-            assert_eq!(answer(by_product), Err(refusal));
-            assert_eq!(number(by_product), refused as usize);
-        }
-    }
 }

@@ -21,7 +21,7 @@ const fn refusal(number: u64, place: u64) -> u64 {
 const UNREAD: u64 = refusal(1, 0);
 const NO_ROOM: u64 = refusal(8, 0);
 const NOT_SOUND: u64 = refusal(9, 0);
-const TOO_SHORT: u64 = refusal(255, 0);
+const BAD_ROW: u64 = refusal(255, 0);
 
 /// A slice that is lent, or none: then the pointer is null.
 struct Slice<T>(Option<Lent<T>>);
@@ -93,7 +93,7 @@ fn read() {
     let row = || Slice::filled(ROW_CELLS + 2);
     expect(Slice::of(&REQUEST), row(), ROW_CELLS as u64, &REQUEST_ROW);
     expect(Slice::NULL, row(), UNREAD, &[]);
-    expect(Slice::of(&REQUEST), Slice::NULL, TOO_SHORT, &[]);
+    expect(Slice::of(&REQUEST), Slice::NULL, BAD_ROW, &[]);
     expect(Slice::NULL, Slice::NULL, UNREAD, &[]);
 }
 
@@ -127,13 +127,13 @@ fn write() {
     let out = || Slice::filled(20);
     expect(row(), Slice::of(&[]), out(), 3, &REQUEST);
     expect(row(), Slice::NULL, out(), 3, &REQUEST);
-    expect(Slice::NULL, Slice::of(b"x"), out(), TOO_SHORT, &[]);
+    expect(Slice::NULL, Slice::of(b"x"), out(), BAD_ROW, &[]);
     expect(text(), Slice::of(b"x"), out(), 6, &[0x06, 0x00, 0x01, 0x01, 0x01, b'x']);
     expect(text(), Slice::NULL, out(), refusal(6, 0), &[]);
     expect(row(), Slice::of(&[]), Slice::NULL, NO_ROOM, &[]);
     expect(row(), Slice::NULL, Slice::NULL, NO_ROOM, &[]);
     expect(text(), Slice::of(b"x"), Slice::NULL, NO_ROOM, &[]);
-    expect(Slice::NULL, Slice::NULL, Slice::NULL, TOO_SHORT, &[]);
+    expect(Slice::NULL, Slice::NULL, Slice::NULL, BAD_ROW, &[]);
 }
 
 #[test]
@@ -218,7 +218,7 @@ fn dataset_and_values() {
     expect(|| (full(), value(), row()), [DATASET_CELLS as u64, 1], &DATASET);
     expect(|| (Slice::NULL, value(), row()), [NOT_SOUND; 2], &[]);
     expect(|| (full(), Slice::NULL, row()), [UNREAD; 2], &[]);
-    expect(|| (full(), value(), Slice::NULL), [TOO_SHORT; 2], &[]);
+    expect(|| (full(), value(), Slice::NULL), [BAD_ROW; 2], &[]);
     expect(|| (full(), Slice::NULL, Slice::NULL), [UNREAD; 2], &[]);
     expect(|| (Slice::NULL, Slice::NULL, Slice::NULL), [NOT_SOUND; 2], &[]);
 }
@@ -236,7 +236,7 @@ fn ports() {
     }
     expect(Slice::of(&table()), Slice::filled(3), 1, &[0]);
     expect(Slice::NULL, Slice::filled(3), NOT_SOUND, &[]);
-    expect(Slice::of(&table()), Slice::NULL, TOO_SHORT, &[]);
+    expect(Slice::of(&table()), Slice::NULL, BAD_ROW, &[]);
     // No port wants no room.
     expect(Slice::of(&[0; TABLE_CELLS]), Slice::NULL, 0, &[]);
     expect(Slice::NULL, Slice::NULL, NOT_SOUND, &[]);
@@ -271,7 +271,7 @@ fn port_and_format() {
         [&port, &format],
     );
     expect(|| (Slice::NULL, row()), [NOT_SOUND; 2], [&[]; 2]);
-    expect(|| (full(), Slice::NULL), [TOO_SHORT; 2], [&[]; 2]);
+    expect(|| (full(), Slice::NULL), [BAD_ROW; 2], [&[]; 2]);
     expect(|| (Slice::NULL, Slice::NULL), [NOT_SOUND; 2], [&[]; 2]);
 }
 
@@ -317,7 +317,7 @@ fn read_block() {
     let table = Slice::NULL;
     expect(Lending { table, ..lending() }, NOT_SOUND, &[], "");
     let totals = Slice::NULL;
-    expect(Lending { totals, ..lending() }, TOO_SHORT, &[], "");
+    expect(Lending { totals, ..lending() }, BAD_ROW, &[], "");
     let log = Slice::NULL;
     expect(Lending { log, ..lending() }, 0, &[], "");
     let text = Slice::NULL;

@@ -5,8 +5,8 @@ use std::collections::BTreeSet;
 
 use differential::{
     castanetash_dataset, castanetash_empty, castanetash_format, castanetash_offer, castanetash_port, castanetash_ports,
-    castanetash_read, castanetash_read_block, castanetash_values, castanetash_write, number, Lent, DATASET_CELLS,
-    FORMAT_CELLS, NOT_SOUND, PORT_CELLS, ROW_CELLS, TOO_SHORT, TOTALS_CELLS,
+    castanetash_read, castanetash_read_block, castanetash_values, castanetash_write, number, Lent, BAD_ROW,
+    DATASET_CELLS, FORMAT_CELLS, NOT_SOUND, PORT_CELLS, ROW_CELLS, TOTALS_CELLS,
 };
 use yardstick::examples::{bytes, SOUND};
 use yardstick::{log_record, Table, Way, LINE_ROOM, LOG_RECORD, TABLE_CELLS};
@@ -101,7 +101,7 @@ fn read() {
         ),
     ] {
         for cells in 0..ROW_CELLS {
-            call(way, message, cells, TOO_SHORT, &[]);
+            call(way, message, cells, BAD_ROW, &[]);
         }
         for cells in ROW_CELLS..ROW_CELLS + 20 {
             call(way, message, cells, ROW_CELLS as u64, &row);
@@ -138,7 +138,7 @@ fn write() {
     for (way, row, open) in [(DOWN, setup, &b""[..]), (UP, setup, b"xyz"), (UP, text, b"SPEED")] {
         for cells in 0..ROW_CELLS {
             for out in every_output() {
-                call(way, &row[..cells], open, out, TOO_SHORT, "");
+                call(way, &row[..cells], open, out, BAD_ROW, "");
             }
         }
     }
@@ -146,7 +146,7 @@ fn write() {
     for form in [0, 34, 255, 256 + 21, 1 << 32 | 21, u64::MAX] {
         for way in [DOWN, UP] {
             for out in every_output() {
-                call(way, &row(form, &[0x32, 15, 1, 1]), b"xyz", out, TOO_SHORT, "");
+                call(way, &row(form, &[0x32, 15, 1, 1]), b"xyz", out, BAD_ROW, "");
             }
         }
     }
@@ -178,10 +178,10 @@ fn write() {
             "",
         );
         // Numbers that are wider than their fields, which have no list.
-        call(DOWN, &row(21, &[300, 15, 1, 1]), b"", out, TOO_SHORT, "");
-        call(DOWN, &row(21, &[0, 15, 1 << 32, 1]), b"", out, TOO_SHORT, "");
-        call(UP, &row(4, &[5, 6, 128]), b"", out, TOO_SHORT, "");
-        call(UP, &row(23, &[0, 2, 2, 1, 65_536]), b"", out, TOO_SHORT, "");
+        call(DOWN, &row(21, &[300, 15, 1, 1]), b"", out, BAD_ROW, "");
+        call(DOWN, &row(21, &[0, 15, 1 << 32, 1]), b"", out, BAD_ROW, "");
+        call(UP, &row(4, &[5, 6, 128]), b"", out, BAD_ROW, "");
+        call(UP, &row(23, &[0, 2, 2, 1, 65_536]), b"", out, BAD_ROW, "");
     }
     // The output, of every length.
     let written = "0A 00 41 32 0F 12 34 56 78 01";
@@ -428,7 +428,7 @@ fn dataset() {
         (FIRST_NAN, 1, [1, 0x4000_0000, 3, 1, 0, 0]),
     ] {
         for room in 0..DATASET_CELLS {
-            call(&cells, UP, message, number, room, TOO_SHORT, &[]);
+            call(&cells, UP, message, number, room, BAD_ROW, &[]);
         }
         for room in DATASET_CELLS..DATASET_CELLS + 10 {
             call(&cells, UP, message, number, room, DATASET_CELLS as u64, &row);
@@ -480,7 +480,7 @@ fn values() {
         (FLOATS, [1, 0x3F80_0000, 3, 1, 0, 0, 1, 0x4000_0000, 3, 1, 0, 0]),
     ] {
         for room in 0..rows.len() {
-            call(&cells, UP, message, room, TOO_SHORT, &[]);
+            call(&cells, UP, message, room, BAD_ROW, &[]);
         }
         for room in rows.len()..rows.len() + 10 {
             call(&cells, UP, message, room, 2, &rows);
@@ -516,7 +516,7 @@ fn ports() {
     let all: Vec<u8> = (100..116).collect();
     for (cells, ports) in [(table(), &PORTS[..]), (full(), &all), (vec![0; TABLE_CELLS], &[])] {
         for room in 0..ports.len() {
-            call(&cells, room, TOO_SHORT, &[]);
+            call(&cells, room, BAD_ROW, &[]);
         }
         for room in ports.len()..ports.len() + 10 {
             call(&cells, room, ports.len() as u64, ports);
@@ -552,7 +552,7 @@ fn port() {
         (99, [0; PORT_CELLS]),
     ] {
         for room in 0..PORT_CELLS {
-            call(&table(), port, room, TOO_SHORT, &[]);
+            call(&table(), port, room, BAD_ROW, &[]);
         }
         for room in PORT_CELLS..PORT_CELLS + 10 {
             call(&table(), port, room, PORT_CELLS as u64, &row);
@@ -588,7 +588,7 @@ fn format() {
         (99, 0, [0; FORMAT_CELLS]),
     ] {
         for room in 0..FORMAT_CELLS {
-            call(&table(), port, mode, room, TOO_SHORT, &[]);
+            call(&table(), port, mode, room, BAD_ROW, &[]);
         }
         for room in FORMAT_CELLS..FORMAT_CELLS + 10 {
             call(&table(), port, mode, room, FORMAT_CELLS as u64, &row);
@@ -649,7 +649,7 @@ fn read_block() {
     for totals in 0..TOTALS_CELLS {
         for log in [log(), log()[..LOG_RECORD - 1].to_vec(), Vec::new()] {
             for room in [0, LINE_ROOM - 1, LINE_ROOM, 2000] {
-                call(&table(), &[5; 2][..totals], &log, room, TOO_SHORT, refused());
+                call(&table(), &[5; 2][..totals], &log, room, BAD_ROW, refused());
             }
         }
     }

@@ -4,7 +4,7 @@
 use differential::{
     castanetash_dataset, castanetash_format, castanetash_offer, castanetash_port, castanetash_ports,
     castanetash_values, dataset_cells, format_cells, number, offer_answer, port_cells, refused, values_cells, Lent,
-    DATASET_CELLS, FORMAT_CELLS, PORT_CELLS, TOO_SHORT,
+    BAD_ROW, DATASET_CELLS, FORMAT_CELLS, PORT_CELLS,
 };
 use yardstick::examples::{bytes, SOUND};
 use yardstick::{Table, TableCells, Way, RECORD_CELLS};
@@ -22,7 +22,7 @@ fn expect(name: &str, expected: Result<&[u64], u64>, written: u64, mut call: imp
                 row.expect(cells, &name);
             }
             Ok(_) => {
-                assert_eq!(answer, TOO_SHORT, "{name}");
+                assert_eq!(answer, BAD_ROW, "{name}");
                 row.expect_unchanged(&name);
             }
             Err(refusal) => {
@@ -51,7 +51,7 @@ fn expect_ports(name: &str, expected: Result<&[u8], u64>, mut call: impl FnMut(&
                 ports.expect(present, &name);
             }
             Ok(_) => {
-                assert_eq!(answer, TOO_SHORT, "{name}");
+                assert_eq!(answer, BAD_ROW, "{name}");
                 ports.expect_unchanged(&name);
             }
             Err(refusal) => {

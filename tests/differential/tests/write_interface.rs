@@ -1,7 +1,7 @@
 //! The edges of writing: rows that are too short or have no form, cells that aren't looked at, and the way.
 
 use differential::{
-    castanetash_write, number, outside, read, valid_calls, Call, Lent, WriteTally, OUTPUT, ROW_CELLS, TOO_SHORT,
+    castanetash_write, number, outside, read, valid_calls, way_byte, Call, Lent, WriteTally, BAD_ROW, OUTPUT, ROW_CELLS,
 };
 use yardstick::{encode, Form, Kind, Message, Way};
 
@@ -34,10 +34,6 @@ fn nothing(answer: u64) -> (u64, Vec<u8>) {
     (answer, Lent::filled(OUTPUT).contents().to_vec())
 }
 
-fn way_byte(way: Way) -> u8 {
-    u8::from(way == Way::Up)
-}
-
 /// A row that is too short is refused before anything else is looked at: the way, the form, the open bytes, the output.
 #[test]
 fn fewer_cells_are_no_row_and_more_are_not_looked_at() {
@@ -48,7 +44,7 @@ fn fewer_cells_are_no_row_and_more_are_not_looked_at() {
         for length in 0..=row.len() {
             let outcome = written(way_byte(call.way), &row[..length], &call.open);
             let right = if length < ROW_CELLS {
-                nothing(TOO_SHORT)
+                nothing(BAD_ROW)
             } else {
                 expected(&call)
             };
@@ -56,7 +52,7 @@ fn fewer_cells_are_no_row_and_more_are_not_looked_at() {
             for way in Way::BOTH {
                 for output in [0, OUTPUT] {
                     let answer = tally.compare_row(way, &row[..length], b"xyz", output);
-                    assert_eq!(answer == TOO_SHORT, length < ROW_CELLS, "{call:?}, {length} cells");
+                    assert_eq!(answer == BAD_ROW, length < ROW_CELLS, "{call:?}, {length} cells");
                 }
             }
         }
@@ -75,8 +71,8 @@ fn other_forms_are_no_message() {
             let mut row = [0; ROW_CELLS];
             row[0] = form;
             for open in [&b""[..], b"x", &[b'x'; 200]] {
-                assert_eq!(written(way, &row, open), nothing(TOO_SHORT), "form {form}");
-                assert_eq!(castanetash_write(&row, way, open, &mut []), TOO_SHORT, "form {form}");
+                assert_eq!(written(way, &row, open), nothing(BAD_ROW), "form {form}");
+                assert_eq!(castanetash_write(&row, way, open, &mut []), BAD_ROW, "form {form}");
             }
         }
     }

@@ -1,7 +1,7 @@
 //! Rows of any numbers given to writing: every field is judged on the row's own number. The seeds are fixed, so every run
 //! compares the same rows.
 
-use differential::{edges, number, outside, valid_calls, Call, Random, WriteTally, OUTPUT, ROW_CELLS, TOO_SHORT};
+use differential::{edges, number, outside, valid_calls, Call, Random, WriteTally, BAD_ROW, OUTPUT, ROW_CELLS};
 use yardstick::{Form, Row, Way};
 
 /// Numbers at the edges of fields and lists, and wider than they are.
@@ -45,7 +45,7 @@ const fn seven(place: u64) -> u64 {
 /// By hand: the answer where a value of a form is 2^63 and all else is right. It is outside every list, wider than every
 /// field, and the least signed number of 64 bits.
 fn answers_to_wide_values(call: &Call) -> Vec<u64> {
-    const WIDE: u64 = TOO_SHORT;
+    const WIDE: u64 = BAD_ROW;
     match call.form {
         Form::PropertyCommand | Form::PropertyText => vec![seven(3), seven(4)],
         // Those of properties 11 and 12 have no list.
@@ -178,7 +178,7 @@ fn wide_values_the_other_way() {
                         let answer = tally.compare_row(other(call.way), &row, open, output);
                         assert_eq!(answer, 5 << 32 | 2, "{row:X?}");
                         let answer = tally.compare_row(other(call.way), &row[..ROW_CELLS - 1], open, output);
-                        assert_eq!(answer, TOO_SHORT, "{row:X?}");
+                        assert_eq!(answer, BAD_ROW, "{row:X?}");
                     }
                 }
             }
@@ -211,7 +211,7 @@ fn entries_of_a_list() {
             if turn % 2 == 1 && !within.is_empty() {
                 let wide = random.below(within.len());
                 row[within.start + wide] |= 1 << random.between(16, 63);
-                expected = if number(expected) == 0 { TOO_SHORT } else { expected };
+                expected = if number(expected) == 0 { BAD_ROW } else { expected };
             }
             let answer = tally.compare_row(Way::Up, &row, b"", OUTPUT);
             assert_eq!(answer, expected, "{row:X?}");
@@ -226,9 +226,7 @@ fn any_row(random: &mut Random, valid: &[Call]) -> (Way, Vec<u64>, Vec<u8>, usiz
     let call = &valid[random.below(valid.len())];
     let kinds = call.form.kinds();
     let mut row = call.row().to_vec();
-    for cell in 1..VALUES {
-        row[cell] = any_number(random);
-    }
+    row[1..VALUES].fill_with(|| any_number(random));
     for _ in 0..random.one_of(&[0, 1, 1, 1, 2, 2, 3, 8]) {
         let cell = random.between(VALUES, VALUES + kinds.len());
         row[cell] = match (random.below(4), kinds.get(cell - VALUES)) {

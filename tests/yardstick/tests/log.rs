@@ -201,11 +201,11 @@ fn floats() {
 /// A log of 400 records, some of them values.
 fn made_log(seed: u64) -> Vec<u8> {
     let mut log = Vec::new();
-    if seed % 2 == 0 {
-        bench_log(seed, 400, &mut log).expect("writing to memory");
-    } else {
-        every_log(seed, 400, &mut log).expect("writing to memory");
-    }
+    let made = match seed % 2 {
+        0 => bench_log(seed, 400, &mut log),
+        _ => every_log(seed, 400, &mut log),
+    };
+    made.expect("writing to memory");
     log
 }
 

@@ -3,10 +3,7 @@
 use yardstick::{Dataset, Format, Port, Refusal, Setup, Value, Wiring};
 
 use crate::answer::{answer, refused, Filled};
-use crate::castanetash::{DATASET_CELLS, FORMAT_CELLS, MOST_DATASETS, PORT_CELLS};
-
-/// The most cells that all datasets of a value have.
-pub const MOST_VALUES_CELLS: usize = MOST_DATASETS * DATASET_CELLS;
+use crate::castanetash::{DATASET_CELLS, FORMAT_CELLS, PORT_CELLS};
 
 /// The answer to an offered message.
 pub fn offer_answer(offered: Result<(), Refusal>) -> u64 {

@@ -1,6 +1,5 @@
 use yardstick::{Way, TABLE_CELLS};
 
-use super::answer::MOST_VALUES_CELLS;
 use crate::answer::Filled;
 use crate::castanetash::{DATASET_CELLS, FORMAT_CELLS, MOST_DATASETS, MOST_PORTS, PORT_CELLS};
 use crate::lent::Lent;
@@ -70,7 +69,7 @@ impl LentTable {
 
     /// Hands out all datasets of a value, with room for more than there may be.
     pub fn values(&mut self, way: Way, message: &[u8]) -> Result<Vec<u64>, u64> {
-        self.values_in(way, message, MOST_VALUES_CELLS + MORE)
+        self.values_in(way, message, MOST_DATASETS * DATASET_CELLS + MORE)
     }
 
     /// Hands out all datasets of a value in so many cells.

@@ -5,7 +5,7 @@ mod lent_table;
 mod tally;
 mod trio;
 
-pub use answer::{dataset_cells, format_cells, offer_answer, port_cells, values_cells, MOST_VALUES_CELLS};
+pub use answer::{dataset_cells, format_cells, offer_answer, port_cells, values_cells};
 pub use lent_table::LentTable;
 pub use tally::TableTally;
 pub use trio::Trio;

@@ -5,7 +5,7 @@ use yardstick::{MessageList, Offered, Refusal, Table, Way, Wiring};
 use super::answer::{dataset_cells, format_cells, offer_answer, port_cells, values_cells};
 use super::lent_table::LentTable;
 use super::tally::TableTally;
-use crate::answer::{refused, TOO_SHORT};
+use crate::answer::{refused, BAD_ROW};
 use crate::castanetash::{DATASET_CELLS, MOST_DATASETS, PORT_CELLS};
 
 /// A list of messages that three follow: the product's table, the second program's table and the reader without a
@@ -125,7 +125,7 @@ impl Trio {
                 let room = cells.len();
                 assert_eq!(self.product.values_in(way, message, room), Ok(cells), "{}", name());
                 let too_short = self.product.values_in(way, message, room - 1);
-                assert_eq!(too_short, Err(TOO_SHORT), "{}", name());
+                assert_eq!(too_short, Err(BAD_ROW), "{}", name());
             }
             // At least one of them is refused so, and the others not.
             Err(answer) if answer == refused(Refusal::NOT_FINITE) => {
