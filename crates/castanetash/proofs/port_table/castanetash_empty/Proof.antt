@@ -1,8 +1,8 @@
 use mathlib.Core.Path.{_∙_, ap}
-use Rattle.table_cells.specs.Rows.{outcomeNumber}
+use Rattle.answers.specs.Call.{plainNumber}
 use borrow.Author.Needs.{needs}
-use Rattle.capi.proofs.port_table.castanetash_empty.Statement.{statement}
-use Rattle.capi.proofs.port_table.castanetash_empty.Tie as tie
+use Rattle.castanetash.proofs.port_table.castanetash_empty.Statement.{statement}
+use Rattle.castanetash.proofs.port_table.castanetash_empty.Tie as tie
 
 empty-requires : tie.Need-empty-requires
 empty-requires c κs = search needs
@@ -14,7 +14,9 @@ same-length : tie.Need-same-length
 same-length c = search needs
 
 returns : tie.Need-returns
-returns c = (c .outcome-number .ensures ∙ ap outcomeNumber (c .before .before .before .empty .ensures .0), c .before .before .before .empty .ensures .1)
+returns c =
+    let e = c .before .before .before .empty in
+    (c .outcome-number .ensures ∙ ap plainNumber (e .ensures .0), e .ensures .1)
 
 pub castanetash-empty-spec : {M : Type 1} → statement M
 castanetash-empty-spec =

@@ -1,6 +1,6 @@
 use borrow.Author.Tests.{eq-eqb, ne-eqb}
-use Rattle.capi.proofs.way.way_of.Statement.{statement}
-use Rattle.capi.proofs.way.way_of.Tie as tie
+use Rattle.castanetash.proofs.way.way_of.Statement.{statement}
+use Rattle.castanetash.proofs.way.way_of.Tie as tie
 
 returns : tie.Need-returns
 returns c = rw (eq-eqb _ _ (c .if1 .taken))

@@ -1,7 +1,7 @@
 use borrow.Author.Tests.{eq-eqb, ne-eqb}
 use borrow.Author.Needs.{needs}
-use Rattle.capi.proofs.open_start.Statement.{statement}
-use Rattle.capi.proofs.open_start.Tie as tie
+use Rattle.castanetash.proofs.messages.open_start.Statement.{statement}
+use Rattle.castanetash.proofs.messages.open_start.Tie as tie
 
 sub-result : tie.Need-sub-result
 sub-result c = search needs
