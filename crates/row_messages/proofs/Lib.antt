@@ -1,4 +1,6 @@
-pub mod RowSize
-pub mod Settled
+pub mod Answering
 pub mod Built
+pub mod Chosen
+pub mod OwnRow
 pub mod Same
+pub mod Settled

@@ -1,1 +1,1 @@
-pub mod FromRow
+pub mod RowWriting
