@@ -1,1 +1,2 @@
+pub mod RowTrip
 pub mod RowWriting
