@@ -1,1 +1,2 @@
-pub mod FromRow
+pub mod RowTrip
+pub mod RowWriting

@@ -1,5 +1,5 @@
--- What comes of a message's way and selectors, by the definition of writing.
-use Prim.Native.Nat.{ℕ}
+-- What comes of a form's way and selectors, by the definition of writing.
+use Prim.Native.Nat.{ℕ, zero, suc, _+_}
 use native.Mathlib.Omega.{arith}
 use mathlib.Core.Path.{_≡_, refl, sym, _∙_, ap}
 use mathlib.Core.Bool.{Bool, true, false, cond, _||_}
@@ -7,27 +7,31 @@ use mathlib.Core.List.{List, [], _∷_}
 use mathlib.Core.Logic.{⊎-elim}
 use borrow.Author.Tests.{eqb-true, eq-eqb}
 use lib.Dec.{eqb}
-use lib.Ieee.{Float}
+use lib.ListN.{getD}
+use Rattle.protocol.proofs.Answers.{message-back}
 use Rattle.protocol.proofs.Tests.{which}
 use Rattle.protocol.specs.Rule.{between, oneOf}
 use Rattle.protocol.specs.Properties.{carries, allowed, outsideSelector}
+use Rattle.protocol.specs.Field.{Value}
 use Rattle.protocol.specs.Form
 use Rattle.protocol.specs.Form.{Form, formNumber, argument, sameForm, code}
-use Rattle.protocol.specs.Types.{payload, downAction, upAction, hubProperties, hubActions, hubAlerts, portModeInformation, types}
-use Rattle.protocol.specs.Answer.{formOf, valuesOf, naturalAt}
+use Rattle.protocol.specs.Types.{payload, downAction, upAction, hubProperties, hubActions, hubAlerts, hubAttachedIo, portInformation, portModeInformation, virtualPortSetup, types}
+use Rattle.protocol.specs.Answer.{formOf, valuesOf, naturalAt, messageOf}
 use Rattle.protocol.specs.Encode.{Encoded, refused, encodeForm, encodeValues, encode}
 use Rattle.protocol.specs.declared.Message.{Message}
-use Rattle.protocol.specs.declared.Message.the-variants as Message'
 use Rattle.protocol.specs.declared.Way.{Way}
 use Rattle.protocol.specs.declared.Way.the-variants.{Down, Up}
-use Rattle.selectors.specs.Choice.{afterSelectors, downOnly, upOnly, propertyForm, propertyChoice, actionChoice, commandLeads, isUp, alertChoice}
+use Rattle.selectors.specs.Choice.{afterSelectors, downOnly, upOnly, propertyForm, propertyChoice, actionChoice, commandLeads, updateLeads, alertChoice, choiceOf, formAt}
 use Rattle.selectors.specs.declared.Choice.{Choice}
 use Rattle.selectors.specs.declared.Choice.the-variants.{Chosen, Refused}
 
 abbrev own : Message → List ℕ → Encoded
 own m opens = encodeForm (formOf m) (valuesOf m) opens
 
--- what a choice has to be
+-- what a choice has to be: of a form with its values, and of a message
+abbrev pub RightFor : Way → Form → List Value → Choice → Type 0
+RightFor way f vs c = (opens : List ℕ) → encodeValues way f vs opens ≡ afterSelectors c (encodeForm f vs opens)
+
 abbrev pub Right : Way → Message → Choice → Type 0
 Right way m c = (opens : List ℕ) → encode way m opens ≡ afterSelectors c (own m opens)
 
@@ -36,17 +40,31 @@ right-by way m n r c e k x = rw (e, k) x
 
 -- ---- types that go one way
 
-pub going-down : (m : Message) → ((opens : List ℕ) → encode Down m opens ≡ own m opens) → ((opens : List ℕ) → encode Up m opens ≡ refused 5 2) → (way : Way) → Right way m (downOnly way)
-going-down m here there Down = here
-going-down m here there Up = there
+one-test : (b : Bool) (x : Encoded) (n p : ℕ) → cond b x (refused n p) ≡ afterSelectors (cond b Chosen (Refused n p)) x
+one-test true x n p = refl
+one-test false x n p = refl
 
-pub going-up : (m : Message) (leads : Bool) (place : ℕ) → ((opens : List ℕ) → encode Down m opens ≡ refused 5 2) → ((opens : List ℕ) → encode Up m opens ≡ cond leads (own m opens) (refused 7 place)) → (way : Way) → Right way m (upOnly way leads place)
-going-up m leads place there here Down = there
-going-up m leads place there here Up = λ opens. here opens ∙ either leads (own m opens)
-  where
-    either : (b : Bool) (x : Encoded) → cond b x (refused 7 place) ≡ afterSelectors (cond b Chosen (Refused 7 place)) x
-    either true x = refl
-    either false x = refl
+module _ (f : Form) (vs : List Value) (leads : Bool) (place : ℕ) where
+  abbrev formed : List ℕ → Encoded
+  formed opens = encodeForm f vs opens
+
+  going-down : ((opens : List ℕ) → encodeValues Down f vs opens ≡ cond leads (encodeForm f vs opens) (refused 7 place)) → ((opens : List ℕ) → encodeValues Up f vs opens ≡ refused 5 2) → (way : Way) → RightFor way f vs (downOnly way leads place)
+  going-down here there Down = λ opens. here opens ∙ one-test leads (formed opens) 7 place
+  going-down here there Up = there
+
+  going-up : ((opens : List ℕ) → encodeValues Down f vs opens ≡ refused 5 2) → ((opens : List ℕ) → encodeValues Up f vs opens ≡ cond leads (encodeForm f vs opens) (refused 7 place)) → (way : Way) → RightFor way f vs (upOnly way leads place)
+  going-up there here Down = there
+  going-up there here Up = λ opens. here opens ∙ one-test leads (formed opens) 7 place
+
+-- a selector that has one value in a form: with it the form is chosen, with any other it is refused
+by-value : (F : ℕ → Encoded) (b v : ℕ) (x r : Encoded) → F v ≡ x → (eqb b v ≡ false → F b ≡ r) → F b ≡ cond (eqb b v) x r
+by-value F b v x r at-it else-not =
+    ⊎-elim (λ (same : eqb b v ≡ true). rw same (ap F (eqb-true b v same) ∙ at-it)) (λ (other : eqb b v ≡ false). rw other (else-not other)) (which (eqb b v))
+
+-- whichever test, the same refusal
+either-way : (b : Bool) (r : Encoded) → cond b r r ≡ r
+either-way true r = refl
+either-way false r = refl
 
 -- ---- hub properties
 
@@ -57,7 +75,7 @@ argumentOf p n = cond (eqb n 2 || eqb n 3) p 0
 abbrev Of : ℕ → Form → Type 0
 Of p f = argument f ≡ argumentOf p (formNumber f)
 
-pub same-number : (p : ℕ) (g f : Form) → Of p g → Of p f → sameForm g f ≡ eqb (formNumber g) (formNumber f)
+same-number : (p : ℕ) (g f : Form) → Of p g → Of p f → sameForm g f ≡ eqb (formNumber g) (formNumber f)
 same-number p g f a b =
     ⊎-elim
     (λ (yes : eqb (formNumber g) (formNumber f) ≡ true).
@@ -98,21 +116,17 @@ unfolding outsideSelector
 selectors way f p o x a =
     rw (same-number p (propertyForm p o) f (of-property p o) a) (tests (between 1 15 p) (allowed way p o) (eqb (formNumber (propertyForm p o)) (formNumber f)) x)
 
-pub property-right : (m : Message) (p o : ℕ) → code (formOf m) ≡ 1 → naturalAt (valuesOf m) 0 ≡ p → naturalAt (valuesOf m) 1 ≡ o → Of p (formOf m) → (way : Way) → Right way m (propertyChoice way p o (formNumber (formOf m)))
-unfolding encode encodeValues types hubProperties propertyForm
-property-right m p o one first second a Down = λ opens. rw (one, first, second) (selectors Down (formOf m) p o (own m opens) a)
-property-right m p o one first second a Up = λ opens. rw (one, first, second) (selectors Up (formOf m) p o (own m opens) a)
+property-right : (f : Form) (vs : List Value) → code f ≡ 1 → Of (naturalAt vs 0) f → (way : Way) → RightFor way f vs (propertyChoice way (naturalAt vs 0) (naturalAt vs 1) (formNumber f))
+unfolding encodeValues types hubProperties propertyForm
+property-right f vs one a Down = λ opens. rw one (selectors Down f (naturalAt vs 0) (naturalAt vs 1) (encodeForm f vs opens) a)
+property-right f vs one a Up = λ opens. rw one (selectors Up f (naturalAt vs 0) (naturalAt vs 1) (encodeForm f vs opens) a)
 
 -- ---- hub actions and alerts
 
-one-test : (b : Bool) (x : Encoded) (n p : ℕ) → cond b x (refused n p) ≡ afterSelectors (cond b Chosen (Refused n p)) x
-one-test true x n p = refl
-one-test false x n p = refl
-
-pub action-right : (a : ℕ) (way : Way) → Right way (Message'.HubAction a) (actionChoice way a)
-unfolding encode encodeValues types hubActions
-action-right a Down = λ opens. one-test (downAction a) (own (Message'.HubAction a) opens) 7 3
-action-right a Up = λ opens. one-test (upAction a) (own (Message'.HubAction a) opens) 7 3
+action-right : (vs : List Value) (way : Way) → RightFor way Form.hubAction vs (actionChoice way (naturalAt vs 0))
+unfolding encodeValues types hubActions
+action-right vs Down = λ opens. one-test (downAction (naturalAt vs 0)) (encodeForm Form.hubAction vs opens) 7 3
+action-right vs Up = λ opens. one-test (upAction (naturalAt vs 0)) (encodeForm Form.hubAction vs opens) 7 3
 
 two-tests : (a b : Bool) (x : Encoded) → cond a (cond b x (refused 7 4)) (refused 7 3) ≡ afterSelectors (cond a (cond b Chosen (Refused 7 4)) (Refused 7 3)) x
 two-tests true true x = refl
@@ -124,15 +138,92 @@ no-form true true x = refl
 no-form true false x = refl
 no-form false b x = refl
 
-pub command-right : (a o : ℕ) (way : Way) → Right way (Message'.AlertCommand a o) (alertChoice a (commandLeads way o))
-unfolding encode encodeValues types hubAlerts
-command-right a o Down = λ opens. two-tests (between 1 4 a) (between 1 3 o) (own (Message'.AlertCommand a o) opens)
-command-right a o Up = λ opens. no-form (between 1 4 a) (oneOf (4 ∷ []) o) (own (Message'.AlertCommand a o) opens)
+command-right : (vs : List Value) (way : Way) → RightFor way Form.alertCommand vs (alertChoice (naturalAt vs 0) (commandLeads way (naturalAt vs 1)))
+unfolding encodeValues types hubAlerts
+command-right vs Down = λ opens. two-tests (between 1 4 (naturalAt vs 0)) (between 1 3 (naturalAt vs 1)) (encodeForm Form.alertCommand vs opens)
+command-right vs Up = λ opens. no-form (between 1 4 (naturalAt vs 0)) (oneOf (4 ∷ []) (naturalAt vs 1)) (encodeForm Form.alertCommand vs opens)
 
-pub update-right : (a v : ℕ) (way : Way) → Right way (Message'.AlertUpdate a v) (alertChoice a (isUp way))
-unfolding encode encodeValues types hubAlerts
-update-right a v Down = λ opens. two-tests (between 1 4 a) false (own (Message'.AlertUpdate a v) opens)
-update-right a v Up = λ opens. two-tests (between 1 4 a) true (own (Message'.AlertUpdate a v) opens)
+update-right : (vs : List Value) (way : Way) → RightFor way Form.alertUpdate vs (alertChoice (naturalAt vs 0) (updateLeads way (naturalAt vs 1)))
+unfolding encodeValues types hubAlerts
+update-right vs Down = λ opens. no-form (between 1 4 (naturalAt vs 0)) (between 1 3 (naturalAt vs 1)) (encodeForm Form.alertUpdate vs opens)
+update-right vs Up = λ opens. two-tests (between 1 4 (naturalAt vs 0)) (oneOf (4 ∷ []) (naturalAt vs 1)) (encodeForm Form.alertUpdate vs opens)
+
+-- ---- attachments, what a port is, virtual ports
+
+-- what a type with one selector gives, by its value: its list, and the form that it leads to
+abbrev led : List ℕ → (ℕ → Form) → Form → Encoded → Encoded → ℕ → Encoded
+led list next f x r v = cond (oneOf list v) (cond (sameForm (next v) f) x r) r
+
+abbrev attachment : Bool → Bool → Form
+attachment e0 e1 = cond e0 Form.detached (cond e1 Form.attached Form.attachedVirtual)
+
+not-detached : (e1 e2 : Bool) (x r : Encoded) → cond (false || (e1 || (e2 || false))) (cond (sameForm (attachment false e1) Form.detached) x r) r ≡ r
+not-detached true e2 x r = refl
+not-detached false true x r = refl
+not-detached false false x r = refl
+
+not-attached : (e0 e2 : Bool) (x r : Encoded) → cond (e0 || (false || (e2 || false))) (cond (sameForm (attachment e0 false) Form.attached) x r) r ≡ r
+not-attached true e2 x r = refl
+not-attached false true x r = refl
+not-attached false false x r = refl
+
+not-virtual : (e0 e1 : Bool) (x r : Encoded) → cond (e0 || (e1 || (false || false))) (cond (sameForm (attachment e0 e1) Form.attachedVirtual) x r) r ≡ r
+not-virtual true e1 x r = refl
+not-virtual false true x r = refl
+not-virtual false false x r = refl
+
+abbrev portForm : Bool → Form
+portForm e1 = cond e1 Form.portModes Form.portCombinations
+
+not-modes : (e2 : Bool) (x r : Encoded) → cond (false || (e2 || false)) (cond (sameForm (portForm false) Form.portModes) x r) r ≡ r
+not-modes true x r = refl
+not-modes false x r = refl
+
+not-combinations : (e1 : Bool) (x r : Encoded) → cond (e1 || (false || false)) (cond (sameForm (portForm e1) Form.portCombinations) x r) r ≡ r
+not-combinations true x r = refl
+not-combinations false x r = refl
+
+abbrev virtualForm : Bool → Form
+virtualForm e0 = cond e0 Form.virtualDisconnect Form.virtualConnect
+
+not-disconnect : (e1 : Bool) (x r : Encoded) → cond (false || (e1 || false)) (cond (sameForm (virtualForm false) Form.virtualDisconnect) x r) r ≡ r
+not-disconnect true x r = refl
+not-disconnect false x r = refl
+
+not-connect : (e0 : Bool) (x r : Encoded) → cond (e0 || (false || false)) (cond (sameForm (virtualForm e0) Form.virtualConnect) x r) r ≡ r
+not-connect true x r = refl
+not-connect false x r = refl
+
+module _ (b : ℕ) (x r : Encoded) where
+  abbrev events : Form → ℕ → Encoded
+  events f = led (0 ∷ 1 ∷ 2 ∷ []) (λ e. attachment (eqb e 0) (eqb e 1)) f x r
+
+  detached-value : events Form.detached b ≡ cond (eqb b 0) x r
+  detached-value = by-value (events Form.detached) b 0 x r refl (λ no. rw no (not-detached (eqb b 1) (eqb b 2) x r))
+
+  attached-value : events Form.attached b ≡ cond (eqb b 1) x r
+  attached-value = by-value (events Form.attached) b 1 x r refl (λ no. rw no (not-attached (eqb b 0) (eqb b 2) x r))
+
+  virtual-value : events Form.attachedVirtual b ≡ cond (eqb b 2) x r
+  virtual-value = by-value (events Form.attachedVirtual) b 2 x r refl (λ no. rw no (not-virtual (eqb b 0) (eqb b 1) x r))
+
+  abbrev informations : Form → ℕ → Encoded
+  informations f = led (1 ∷ 2 ∷ []) (λ e. portForm (eqb e 1)) f x r
+
+  modes-value : informations Form.portModes b ≡ cond (eqb b 1) x r
+  modes-value = by-value (informations Form.portModes) b 1 x r refl (λ no. rw no (not-modes (eqb b 2) x r))
+
+  combinations-value : informations Form.portCombinations b ≡ cond (eqb b 2) x r
+  combinations-value = by-value (informations Form.portCombinations) b 2 x r refl (λ no. rw no (not-combinations (eqb b 1) x r))
+
+  abbrev subs : Form → ℕ → Encoded
+  subs f = led (0 ∷ 1 ∷ []) (λ e. virtualForm (eqb e 0)) f x r
+
+  disconnect-value : subs Form.virtualDisconnect b ≡ cond (eqb b 0) x r
+  disconnect-value = by-value (subs Form.virtualDisconnect) b 0 x r refl (λ no. rw no (not-disconnect (eqb b 1) x r))
+
+  connect-value : subs Form.virtualConnect b ≡ cond (eqb b 1) x r
+  connect-value = by-value (subs Form.virtualConnect) b 1 x r refl (λ no. rw no (not-connect (eqb b 0) x r))
 
 -- ---- what a mode is
 
@@ -172,14 +263,6 @@ text-chosen : (t o : Bool) (g : Form) (i : ℕ) (x : Encoded) → (t ≡ true �
 text-chosen true o g i x h n = rw (h refl, eq-eqb i i refl)
 text-chosen false o g i x h n = rw n (refused-both o)
 
-pub text-right : (p m i : ℕ) (way : Way) → Right way (Message'.ModeText p m i) (upOnly way (oneOf (0 ∷ 4 ∷ []) i) 5)
-unfolding encode encodeValues types portModeInformation
-text-right p m i =
-    going-up (Message'.ModeText p m i) (oneOf (0 ∷ 4 ∷ []) i) 5 (λ opens. refl)
-    (λ opens.
-    text-chosen (oneOf (0 ∷ 4 ∷ []) i) (oneOf information i) (cond (oneOf (1 ∷ 2 ∷ 3 ∷ []) i) Form.modeRange (others i)) i (own (Message'.ModeText p m i) opens) (text-listed i)
-    (range-number (oneOf (1 ∷ 2 ∷ 3 ∷ []) i) (others i) (other-number (eqb i 5) (eqb i 7) (eqb i 8) .0)))
-
 range-listed : (i : ℕ) → oneOf (1 ∷ 2 ∷ 3 ∷ []) i ≡ true → (oneOf information i ≡ true) × (oneOf (0 ∷ 4 ∷ []) i ≡ false)
 range-listed i e =
     ⊎-elim (λ (yes : eqb i 1 ≡ true). (ap (oneOf information) (eqb-true i 1 yes), ap (oneOf (0 ∷ 4 ∷ [])) (eqb-true i 1 yes)))
@@ -198,13 +281,140 @@ range-chosen true t o g i x h n = rw (h refl .0, h refl .1)
 range-chosen false true o g i x h n = refused-both o
 range-chosen false false o g i x h n = rw n (refused-both o)
 
-pub range-right : (p m i : ℕ) (l h : Float) (way : Way) → Right way (Message'.ModeRange p m i l h) (upOnly way (oneOf (1 ∷ 2 ∷ 3 ∷ []) i) 5)
-unfolding encode encodeValues types portModeInformation
-range-right p m i l h =
-    going-up (Message'.ModeRange p m i l h) (oneOf (1 ∷ 2 ∷ 3 ∷ []) i) 5 (λ opens. refl)
-    (λ opens.
-    range-chosen (oneOf (1 ∷ 2 ∷ 3 ∷ []) i) (oneOf (0 ∷ 4 ∷ []) i) (oneOf information i) (others i) i (own (Message'.ModeRange p m i l h) opens) (range-listed i)
-    (other-number (eqb i 5) (eqb i 7) (eqb i 8) .1))
+-- the form that an information type leads to
+abbrev modeForm : ℕ → Form
+modeForm i = cond (oneOf (0 ∷ 4 ∷ []) i) (Form.modeText i) (cond (oneOf (1 ∷ 2 ∷ 3 ∷ []) i) Form.modeRange (others i))
+
+abbrev modes : Form → Encoded → ℕ → Encoded
+modes f x = led information modeForm f x (refused 7 5)
+
+text-value : (i j : ℕ) (x : Encoded) → j ≡ i → modes (Form.modeText j) x i ≡ cond (oneOf (0 ∷ 4 ∷ []) i) x (refused 7 5)
+text-value i j x e =
+    rw e
+    (text-chosen (oneOf (0 ∷ 4 ∷ []) i) (oneOf information i) (cond (oneOf (1 ∷ 2 ∷ 3 ∷ []) i) Form.modeRange (others i)) i x (text-listed i)
+    (range-number (oneOf (1 ∷ 2 ∷ 3 ∷ []) i) (others i) (other-number (eqb i 5) (eqb i 7) (eqb i 8) .0)))
+
+range-value : (i : ℕ) (x : Encoded) → modes Form.modeRange x i ≡ cond (oneOf (1 ∷ 2 ∷ 3 ∷ []) i) x (refused 7 5)
+range-value i x =
+    range-chosen (oneOf (1 ∷ 2 ∷ 3 ∷ []) i) (oneOf (0 ∷ 4 ∷ []) i) (oneOf information i) (others i) i x (range-listed i) (other-number (eqb i 5) (eqb i 7) (eqb i 8) .1)
+
+-- the forms of a mode, by the tests of their information type
+abbrev tested : ℕ → Bool → Bool → Bool → Bool → Bool → Form
+tested i t r e5 e7 e8 = cond t (Form.modeText i) (cond r Form.modeRange (cond e5 Form.modeMapping (cond e7 Form.modeBias (cond e8 Form.modeCapabilities Form.valueFormat))))
+
+module _ (i : ℕ) (x : Encoded) where
+  not-mapping : (o t r e7 e8 : Bool) → cond o (cond (sameForm (tested i t r false e7 e8) Form.modeMapping) x (refused 7 5)) (refused 7 5) ≡ refused 7 5
+  not-mapping o true r e7 e8 = either-way o (refused 7 5)
+  not-mapping o false true e7 e8 = either-way o (refused 7 5)
+  not-mapping o false false true e8 = either-way o (refused 7 5)
+  not-mapping o false false false true = either-way o (refused 7 5)
+  not-mapping o false false false false = either-way o (refused 7 5)
+
+  not-bias : (o t r e5 e8 : Bool) → cond o (cond (sameForm (tested i t r e5 false e8) Form.modeBias) x (refused 7 5)) (refused 7 5) ≡ refused 7 5
+  not-bias o true r e5 e8 = either-way o (refused 7 5)
+  not-bias o false true e5 e8 = either-way o (refused 7 5)
+  not-bias o false false true e8 = either-way o (refused 7 5)
+  not-bias o false false false true = either-way o (refused 7 5)
+  not-bias o false false false false = either-way o (refused 7 5)
+
+  not-capabilities : (o t r e5 e7 : Bool) → cond o (cond (sameForm (tested i t r e5 e7 false) Form.modeCapabilities) x (refused 7 5)) (refused 7 5) ≡ refused 7 5
+  not-capabilities o true r e5 e7 = either-way o (refused 7 5)
+  not-capabilities o false true e5 e7 = either-way o (refused 7 5)
+  not-capabilities o false false true e7 = either-way o (refused 7 5)
+  not-capabilities o false false false true = either-way o (refused 7 5)
+  not-capabilities o false false false false = either-way o (refused 7 5)
+
+  -- where no other test passes either, the information type is not in the list
+  not-format : (e0 e1 e2 e3 e4 e5 e7 e8 : Bool)
+      → cond (e0 || (e1 || (e2 || (e3 || (e4 || (e5 || (e7 || (e8 || (false || false)))))))))
+      (cond (sameForm (tested i (e0 || (e4 || false)) (e1 || (e2 || (e3 || false))) e5 e7 e8) Form.valueFormat) x (refused 7 5))
+      (refused 7 5)
+      ≡ refused 7 5
+  not-format true e1 e2 e3 e4 e5 e7 e8 = refl
+  not-format false true e2 e3 true e5 e7 e8 = refl
+  not-format false true e2 e3 false e5 e7 e8 = refl
+  not-format false false true e3 true e5 e7 e8 = refl
+  not-format false false true e3 false e5 e7 e8 = refl
+  not-format false false false true true e5 e7 e8 = refl
+  not-format false false false true false e5 e7 e8 = refl
+  not-format false false false false true e5 e7 e8 = refl
+  not-format false false false false false true e7 e8 = refl
+  not-format false false false false false false true e8 = refl
+  not-format false false false false false false false true = refl
+  not-format false false false false false false false false = refl
+
+  mapping-value : modes Form.modeMapping x i ≡ cond (eqb i 5) x (refused 7 5)
+  mapping-value =
+      by-value (modes Form.modeMapping x) i 5 x (refused 7 5) refl
+      (λ no.
+      ap (λ (e : Bool). cond (oneOf information i) (cond (sameForm (tested i (oneOf (0 ∷ 4 ∷ []) i) (oneOf (1 ∷ 2 ∷ 3 ∷ []) i) e (eqb i 7) (eqb i 8)) Form.modeMapping) x (refused 7 5)) (refused 7 5)) no
+      ∙ not-mapping (oneOf information i) (oneOf (0 ∷ 4 ∷ []) i) (oneOf (1 ∷ 2 ∷ 3 ∷ []) i) (eqb i 7) (eqb i 8))
+
+  bias-value : modes Form.modeBias x i ≡ cond (eqb i 7) x (refused 7 5)
+  bias-value =
+      by-value (modes Form.modeBias x) i 7 x (refused 7 5) refl
+      (λ no.
+      ap (λ (e : Bool). cond (oneOf information i) (cond (sameForm (tested i (oneOf (0 ∷ 4 ∷ []) i) (oneOf (1 ∷ 2 ∷ 3 ∷ []) i) (eqb i 5) e (eqb i 8)) Form.modeBias) x (refused 7 5)) (refused 7 5)) no
+      ∙ not-bias (oneOf information i) (oneOf (0 ∷ 4 ∷ []) i) (oneOf (1 ∷ 2 ∷ 3 ∷ []) i) (eqb i 5) (eqb i 8))
+
+  capabilities-value : modes Form.modeCapabilities x i ≡ cond (eqb i 8) x (refused 7 5)
+  capabilities-value =
+      by-value (modes Form.modeCapabilities x) i 8 x (refused 7 5) refl
+      (λ no.
+      ap (λ (e : Bool). cond (oneOf information i) (cond (sameForm (tested i (oneOf (0 ∷ 4 ∷ []) i) (oneOf (1 ∷ 2 ∷ 3 ∷ []) i) (eqb i 5) (eqb i 7) e) Form.modeCapabilities) x (refused 7 5)) (refused 7 5)) no
+      ∙ not-capabilities (oneOf information i) (oneOf (0 ∷ 4 ∷ []) i) (oneOf (1 ∷ 2 ∷ 3 ∷ []) i) (eqb i 5) (eqb i 7))
+
+  format-value : modes Form.valueFormat x i ≡ cond (eqb i 0x80) x (refused 7 5)
+  format-value =
+      by-value (modes Form.valueFormat x) i 0x80 x (refused 7 5) refl
+      (λ no. rw no (not-format (eqb i 0) (eqb i 1) (eqb i 2) (eqb i 3) (eqb i 4) (eqb i 5) (eqb i 7) (eqb i 8)))
+
+-- ---- of every form
+
+-- a form's argument is that selector which its values have
+abbrev pub Argued : Form → List Value → Type 0
+Argued f vs = argument f ≡ argument (formOf (messageOf f vs))
+
+pub selects : (f : Form) (vs : List Value) → Argued f vs → (way : Way) → RightFor way f vs (choiceOf f way (naturalAt vs 0) (naturalAt vs 1) (naturalAt vs 2))
+unfolding encodeValues types hubAttachedIo portInformation portModeInformation virtualPortSetup
+selects Form.propertyCommand vs a = property-right Form.propertyCommand vs refl refl
+selects (Form.propertyText p) vs a = property-right (Form.propertyText p) vs refl a
+selects (Form.propertyByte p) vs a = property-right (Form.propertyByte p) vs refl a
+selects Form.propertyRssi vs a = property-right Form.propertyRssi vs refl refl
+selects Form.propertyVersion vs a = property-right Form.propertyVersion vs refl refl
+selects Form.propertyProtocol vs a = property-right Form.propertyProtocol vs refl refl
+selects Form.propertyAddress vs a = property-right Form.propertyAddress vs refl refl
+selects Form.hubAction vs a = action-right vs
+selects Form.alertCommand vs a = command-right vs
+selects Form.alertUpdate vs a = update-right vs
+selects Form.detached vs a = going-up Form.detached vs (eqb (naturalAt vs 1) 0) 4 (λ opens. refl) (λ opens. detached-value (naturalAt vs 1) (encodeForm Form.detached vs opens) (refused 7 4))
+selects Form.attached vs a = going-up Form.attached vs (eqb (naturalAt vs 1) 1) 4 (λ opens. refl) (λ opens. attached-value (naturalAt vs 1) (encodeForm Form.attached vs opens) (refused 7 4))
+selects Form.attachedVirtual vs a = going-up Form.attachedVirtual vs (eqb (naturalAt vs 1) 2) 4 (λ opens. refl) (λ opens. virtual-value (naturalAt vs 1) (encodeForm Form.attachedVirtual vs opens) (refused 7 4))
+selects Form.genericError vs a = going-up Form.genericError vs true 0 (λ opens. refl) (λ opens. refl)
+selects Form.goIntoBootMode vs a = going-down Form.goIntoBootMode vs true 0 (λ opens. refl) (λ opens. refl)
+selects Form.lockMemory vs a = going-down Form.lockMemory vs true 0 (λ opens. refl) (λ opens. refl)
+selects Form.lockStatusRequest vs a = going-down Form.lockStatusRequest vs true 0 (λ opens. refl) (λ opens. refl)
+selects Form.lockStatus vs a = going-up Form.lockStatus vs true 0 (λ opens. refl) (λ opens. refl)
+selects Form.portInformationRequest vs a = going-down Form.portInformationRequest vs true 0 (λ opens. refl) (λ opens. refl)
+selects Form.modeInformationRequest vs a = going-down Form.modeInformationRequest vs true 0 (λ opens. refl) (λ opens. refl)
+selects Form.inputFormatSetup vs a = going-down Form.inputFormatSetup vs true 0 (λ opens. refl) (λ opens. refl)
+selects Form.portModes vs a = going-up Form.portModes vs (eqb (naturalAt vs 1) 1) 4 (λ opens. refl) (λ opens. modes-value (naturalAt vs 1) (encodeForm Form.portModes vs opens) (refused 7 4))
+selects Form.portCombinations vs a = going-up Form.portCombinations vs (eqb (naturalAt vs 1) 2) 4 (λ opens. refl) (λ opens. combinations-value (naturalAt vs 1) (encodeForm Form.portCombinations vs opens) (refused 7 4))
+selects (Form.modeText i) vs a = going-up (Form.modeText i) vs (oneOf (0 ∷ 4 ∷ []) (naturalAt vs 2)) 5 (λ opens. refl) (λ opens. text-value (naturalAt vs 2) i (encodeForm (Form.modeText i) vs opens) a)
+selects Form.modeRange vs a = going-up Form.modeRange vs (oneOf (1 ∷ 2 ∷ 3 ∷ []) (naturalAt vs 2)) 5 (λ opens. refl) (λ opens. range-value (naturalAt vs 2) (encodeForm Form.modeRange vs opens))
+selects Form.modeMapping vs a = going-up Form.modeMapping vs (eqb (naturalAt vs 2) 5) 5 (λ opens. refl) (λ opens. mapping-value (naturalAt vs 2) (encodeForm Form.modeMapping vs opens))
+selects Form.modeBias vs a = going-up Form.modeBias vs (eqb (naturalAt vs 2) 7) 5 (λ opens. refl) (λ opens. bias-value (naturalAt vs 2) (encodeForm Form.modeBias vs opens))
+selects Form.modeCapabilities vs a = going-up Form.modeCapabilities vs (eqb (naturalAt vs 2) 8) 5 (λ opens. refl) (λ opens. capabilities-value (naturalAt vs 2) (encodeForm Form.modeCapabilities vs opens))
+selects Form.valueFormat vs a = going-up Form.valueFormat vs (eqb (naturalAt vs 2) 0x80) 5 (λ opens. refl) (λ opens. format-value (naturalAt vs 2) (encodeForm Form.valueFormat vs opens))
+selects Form.portValue vs a = going-up Form.portValue vs true 0 (λ opens. refl) (λ opens. refl)
+selects Form.inputFormat vs a = going-up Form.inputFormat vs true 0 (λ opens. refl) (λ opens. refl)
+selects Form.virtualDisconnect vs a = going-down Form.virtualDisconnect vs (eqb (naturalAt vs 0) 0) 3 (λ opens. disconnect-value (naturalAt vs 0) (encodeForm Form.virtualDisconnect vs opens) (refused 7 3)) (λ opens. refl)
+selects Form.virtualConnect vs a = going-down Form.virtualConnect vs (eqb (naturalAt vs 0) 1) 3 (λ opens. connect-value (naturalAt vs 0) (encodeForm Form.virtualConnect vs opens) (refused 7 3)) (λ opens. refl)
+
+-- and of every message
+pub message-right : (m : Message) (way : Way) → Right way m (choiceOf (formOf m) way (naturalAt (valuesOf m) 0) (naturalAt (valuesOf m) 1) (naturalAt (valuesOf m) 2))
+unfolding encode
+message-right m way = selects (formOf m) (valuesOf m) (ap (λ (n : Message). argument (formOf n)) (sym (message-back m))) way
 
 -- ---- a choice that is known
 
@@ -213,3 +423,19 @@ by-choice way m opens r c x e = x opens ∙ ap (λ (k : Choice). afterSelectors 
 
 pub chosen : (way : Way) (m : Message) (opens : List ℕ) (r : Choice) → Right way m r → r ≡ Chosen → encode way m opens ≡ own m opens
 chosen way m opens r x e = by-choice way m opens r Chosen x e
+
+-- ---- by the number of a form
+
+pub numbered : (n k : ℕ) (way : Way) (a b c : ℕ) (r : Choice) → n ≡ k → r ≡ choiceOf (formAt k) way a b c → r ≡ choiceOf (formAt n) way a b c
+numbered n k way a b c r e x = x ∙ ap (λ (j : ℕ). choiceOf (formAt j) way a b c) (sym e)
+
+-- something holds of the form of a number, if it does of each that may have it
+module _ (P : Form → Type 0) (n : ℕ) where
+  abbrev pub Each : ℕ → List Form → Type 0
+  Each i [] = Unit {0}
+  Each i (f ∷ fs) = (n ≡ i → P f) × Each (suc i) fs
+
+  pub each-found : (d : Form) → P d → (fs : List Form) (i k : ℕ) → n ≡ i + k → Each i fs → P (getD fs k d)
+  each-found d p [] i k e t = p
+  each-found d p (f ∷ fs) i zero e t = t .0 (omega arith)
+  each-found d p (f ∷ fs) i (suc k) e t = each-found d p fs (suc i) k (omega arith) (t .1)

@@ -1,11 +1,13 @@
--- What comes of a message's way and selectors: 5, 7, or its own form.
+-- What comes of a form's way and selectors: 5, 7, or the form itself.
 use Prim.Native.Nat.{ℕ}
 use mathlib.Core.Bool.{Bool, true, false, cond}
+use mathlib.Core.List.{[], _∷_}
 use lib.Dec.{eqb}
-use Rattle.protocol.specs.Rule.{between}
+use lib.ListN.{getD}
+use Rattle.protocol.specs.Rule.{between, oneOf}
 use Rattle.protocol.specs.Properties.{carries, outsideSelector}
 use Rattle.protocol.specs.Form
-use Rattle.protocol.specs.Form.{Form, formNumber}
+use Rattle.protocol.specs.Form.{Form, formNumber, formsBy}
 use Rattle.protocol.specs.Types.{payload, downAction, upAction}
 use Rattle.protocol.specs.Encode.{Encoded, refused}
 use Rattle.protocol.specs.declared.Way.{Way}
@@ -17,9 +19,10 @@ abbrev pub afterSelectors : Choice → Encoded → Encoded
 afterSelectors Chosen x = x
 afterSelectors (Refused number place) x = refused number place
 
-abbrev pub downOnly : Way → Choice
-downOnly Down = Chosen
-downOnly Up = Refused 5 2
+-- a type that goes one way, where the selector at a place leads to the form or not
+abbrev pub downOnly : Way → Bool → ℕ → Choice
+downOnly Down leads place = cond leads Chosen (Refused 7 place)
+downOnly Up leads place = Refused 5 2
 
 abbrev pub upOnly : Way → Bool → ℕ → Choice
 upOnly Down leads place = Refused 5 2
@@ -46,9 +49,49 @@ abbrev pub commandLeads : Way → ℕ → Bool
 commandLeads Down operation = between 1 3 operation
 commandLeads Up operation = false
 
-abbrev pub isUp : Way → Bool
-isUp Down = false
-isUp Up = true
+abbrev pub updateLeads : Way → ℕ → Bool
+updateLeads Down operation = false
+updateLeads Up operation = oneOf (4 ∷ []) operation
 
 abbrev pub alertChoice : ℕ → Bool → Choice
 alertChoice alert leads = cond (between 1 4 alert) (cond leads Chosen (Refused 7 4)) (Refused 7 3)
+
+-- what comes of a form's way and of its selectors, which are among its first three values
+abbrev pub choiceOf : Form → Way → ℕ → ℕ → ℕ → Choice
+choiceOf Form.propertyCommand way a b c = propertyChoice way a b 1
+choiceOf (Form.propertyText p) way a b c = propertyChoice way a b 2
+choiceOf (Form.propertyByte p) way a b c = propertyChoice way a b 3
+choiceOf Form.propertyRssi way a b c = propertyChoice way a b 4
+choiceOf Form.propertyVersion way a b c = propertyChoice way a b 5
+choiceOf Form.propertyProtocol way a b c = propertyChoice way a b 6
+choiceOf Form.propertyAddress way a b c = propertyChoice way a b 7
+choiceOf Form.hubAction way a b c = actionChoice way a
+choiceOf Form.alertCommand way a b c = alertChoice a (commandLeads way b)
+choiceOf Form.alertUpdate way a b c = alertChoice a (updateLeads way b)
+choiceOf Form.detached way a b c = upOnly way (eqb b 0) 4
+choiceOf Form.attached way a b c = upOnly way (eqb b 1) 4
+choiceOf Form.attachedVirtual way a b c = upOnly way (eqb b 2) 4
+choiceOf Form.genericError way a b c = upOnly way true 0
+choiceOf Form.goIntoBootMode way a b c = downOnly way true 0
+choiceOf Form.lockMemory way a b c = downOnly way true 0
+choiceOf Form.lockStatusRequest way a b c = downOnly way true 0
+choiceOf Form.lockStatus way a b c = upOnly way true 0
+choiceOf Form.portInformationRequest way a b c = downOnly way true 0
+choiceOf Form.modeInformationRequest way a b c = downOnly way true 0
+choiceOf Form.inputFormatSetup way a b c = downOnly way true 0
+choiceOf Form.portModes way a b c = upOnly way (eqb b 1) 4
+choiceOf Form.portCombinations way a b c = upOnly way (eqb b 2) 4
+choiceOf (Form.modeText i) way a b c = upOnly way (oneOf (0 ∷ 4 ∷ []) c) 5
+choiceOf Form.modeRange way a b c = upOnly way (oneOf (1 ∷ 2 ∷ 3 ∷ []) c) 5
+choiceOf Form.modeMapping way a b c = upOnly way (eqb c 5) 5
+choiceOf Form.modeBias way a b c = upOnly way (eqb c 7) 5
+choiceOf Form.modeCapabilities way a b c = upOnly way (eqb c 8) 5
+choiceOf Form.valueFormat way a b c = upOnly way (eqb c 0x80) 5
+choiceOf Form.portValue way a b c = upOnly way true 0
+choiceOf Form.inputFormat way a b c = upOnly way true 0
+choiceOf Form.virtualDisconnect way a b c = downOnly way (eqb a 0) 3
+choiceOf Form.virtualConnect way a b c = downOnly way (eqb a 1) 3
+
+-- the form of a number; a choice does not depend on its argument
+unfoldable pub formAt : ℕ → Form
+formAt n = getD (formsBy 0) n Form.lockStatusRequest

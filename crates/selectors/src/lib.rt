@@ -1,4 +1,4 @@
-// Whether a message goes this way, and whether its selectors lead to its own form: refusals 5 and 7.
+// Whether a form goes this way, and whether its selectors lead to it: refusals 5 and 7.
 use hub_messages::hub::is_down_action;
 use hub_messages::property::carries;
 use hub_messages::property::outside_selector;
@@ -12,7 +12,7 @@ ghost use Rattle.protocol.specs.Rule.{oneOf};
 ghost use Rattle.protocol.specs.Form.{formNumber};
 ghost use Rattle.protocol.specs.Answer.{formOf, valuesOf};
 ghost use Rattle.protocol.specs.Encode.{encode, encodeForm};
-ghost use Rattle.selectors.specs.Choice.{afterSelectors, downOnly, upOnly, propertyForm, propertyChoice, isAction, actionChoice, commandLeads, isUp, alertChoice};
+ghost use Rattle.selectors.specs.Choice.{afterSelectors, downOnly, upOnly, propertyForm, propertyChoice, isAction, actionChoice, commandLeads, updateLeads, alertChoice, choiceOf, formAt};
 
 // Which refusal comes of them; chosen where none does.
 pub enum Choice {
@@ -20,12 +20,18 @@ pub enum Choice {
     Refused { number: u8, place: u16 },
 }
 
-// A type that goes down only.
-fn goes_down(way: Way) -> Choice
-    ensures { λ r. ⌜ r ≡ downOnly way ⌝ }
+// A type that goes down only, where the selector at a place leads to the form or not.
+fn goes_down(way: Way, leads: bool, place: u16) -> Choice
+    ensures { λ r. ⌜ r ≡ downOnly way leads place ⌝ }
 {
     match way {
-        Way::Down => Choice::Chosen,
+        Way::Down => {
+            if leads {
+                Choice::Chosen
+            } else {
+                Choice::Refused { number: 7, place }
+            }
+        }
         Way::Up => Choice::Refused {
             number: 5,
             place: 2,
@@ -33,7 +39,7 @@ fn goes_down(way: Way) -> Choice
     }
 }
 
-// A type that goes up only, where the selector at a place leads to the message's form or not.
+// The same of a type that goes up only.
 fn goes_up(way: Way, leads: bool, place: u16) -> Choice
     ensures { λ r. ⌜ r ≡ upOnly way leads place ⌝ }
 {
@@ -53,7 +59,7 @@ fn goes_up(way: Way, leads: bool, place: u16) -> Choice
 }
 
 // The number of the form that a property and an operation lead to.
-fn property_form(property: u8, operation: u8) -> u8
+fn property_form(property: u8, operation: u8) -> u64
     ensures { λ r. ⌜ r ≡ formNumber (propertyForm property operation) ⌝ }
 {
     if carries(operation) {
@@ -75,7 +81,7 @@ fn property_form(property: u8, operation: u8) -> u8
 }
 
 // 0x01
-fn property_selected(way: Way, property: u8, operation: u8, form: u8) -> Choice
+fn property_selected(way: Way, property: u8, operation: u8, form: u64) -> Choice
     ensures { λ r. ⌜ r ≡ propertyChoice way property operation form ⌝ }
 {
     let place = outside_selector(way, property, operation);
@@ -144,12 +150,13 @@ fn command_leads(way: Way, operation: u8) -> bool
     }
 }
 
-fn is_up(way: Way) -> bool
-    ensures { λ r. ⌜ r ≡ isUp way ⌝ }
+// 0x03: whether the operation of an update may go this way.
+fn update_leads(way: Way, operation: u8) -> bool
+    ensures { λ r. ⌜ r ≡ updateLeads way operation ⌝ }
 {
     match way {
         Way::Down => false,
-        Way::Up => true,
+        Way::Up => operation == 4,
     }
 }
 
@@ -176,7 +183,43 @@ fn is_range(information: u8) -> bool
     }
 }
 
-// What comes of a message that goes this way: its selectors' refusal, or what its own form gives.
+// What comes of a form, by its number, and of its selectors, which are among its first three values.
+pub fn choose(form: u64, way: Way, a: u8, b: u8, c: u8) -> Choice
+    ensures { λ r. ⌜ r ≡ choiceOf (formAt form) way a b c ⌝ }
+{
+    match form {
+        1 => property_selected(way, a, b, 1),
+        2 => property_selected(way, a, b, 2),
+        3 => property_selected(way, a, b, 3),
+        4 => property_selected(way, a, b, 4),
+        5 => property_selected(way, a, b, 5),
+        6 => property_selected(way, a, b, 6),
+        7 => property_selected(way, a, b, 7),
+        8 => action_selected(way, a),
+        9 => alert_selected(a, command_leads(way, b)),
+        10 => alert_selected(a, update_leads(way, b)),
+        11 => goes_up(way, b == 0, 4),
+        12 => goes_up(way, b == 1, 4),
+        13 => goes_up(way, b == 2, 4),
+        14 => goes_up(way, true, 0),
+        18 => goes_up(way, true, 0),
+        22 => goes_up(way, b == 1, 4),
+        23 => goes_up(way, b == 2, 4),
+        24 => goes_up(way, is_text(c), 5),
+        25 => goes_up(way, is_range(c), 5),
+        26 => goes_up(way, c == 5, 5),
+        27 => goes_up(way, c == 7, 5),
+        28 => goes_up(way, c == 8, 5),
+        29 => goes_up(way, c == 0x80, 5),
+        30 => goes_up(way, true, 0),
+        31 => goes_up(way, true, 0),
+        32 => goes_down(way, a == 0, 3),
+        33 => goes_down(way, a == 1, 3),
+        _ => goes_down(way, true, 0),
+    }
+}
+
+// The same of a message.
 pub fn selected(m: Message, way: Way) -> Choice
     ensures { λ r. ⌜ ((opens : List ℕ) → encode way m opens ≡ afterSelectors r (encodeForm (formOf m) (valuesOf m) opens)) ⌝ }
 {
@@ -184,111 +227,108 @@ pub fn selected(m: Message, way: Way) -> Choice
         Message::PropertyCommand {
             property,
             operation,
-        } => property_selected(way, property, operation, 1),
+        } => choose(1, way, property, operation, 0),
         Message::PropertyText {
             property,
             operation,
-        } => property_selected(way, property, operation, 2),
+        } => choose(2, way, property, operation, 0),
         Message::PropertyByte {
             property,
             operation,
             value: _,
-        } => property_selected(way, property, operation, 3),
-        Message::PropertyRssi { operation, rssi: _ } => property_selected(way, 5, operation, 4),
+        } => choose(3, way, property, operation, 0),
+        Message::PropertyRssi { operation, rssi: _ } => choose(4, way, 5, operation, 0),
         Message::PropertyVersion {
             property,
             operation,
             version: _,
-        } => property_selected(way, property, operation, 5),
+        } => choose(5, way, property, operation, 0),
         Message::PropertyProtocol {
             operation,
             version: _,
-        } => property_selected(way, 10, operation, 6),
+        } => choose(6, way, 10, operation, 0),
         Message::PropertyAddress {
             property,
             operation,
             address: _,
-        } => property_selected(way, property, operation, 7),
-        Message::HubAction { action } => action_selected(way, action),
-        Message::AlertCommand { alert, operation } => alert_selected(
-            alert,
-            command_leads(way, operation),
-        ),
-        Message::AlertUpdate { alert, status: _ } => alert_selected(alert, is_up(way)),
-        Message::Detached { port: _ } => goes_up(way, true, 4),
+        } => choose(7, way, property, operation, 0),
+        Message::HubAction { action } => choose(8, way, action, 0, 0),
+        Message::AlertCommand { alert, operation } => choose(9, way, alert, operation, 0),
+        Message::AlertUpdate { alert, status: _ } => choose(10, way, alert, 4, 0),
+        Message::Detached { port: _ } => choose(11, way, 0, 0, 0),
         Message::Attached {
             port: _,
             device: _,
             hardware: _,
             software: _,
-        } => goes_up(way, true, 4),
+        } => choose(12, way, 0, 1, 0),
         Message::AttachedVirtual {
             port: _,
             device: _,
             port_a: _,
             port_b: _,
-        } => goes_up(way, true, 4),
+        } => choose(13, way, 0, 2, 0),
         Message::GenericError {
             command: _,
             error: _,
-        } => goes_up(way, true, 0),
-        Message::GoIntoBootMode => goes_down(way),
-        Message::LockMemory => goes_down(way),
-        Message::LockStatusRequest => goes_down(way),
-        Message::LockStatus { status: _ } => goes_up(way, true, 0),
+        } => choose(14, way, 0, 0, 0),
+        Message::GoIntoBootMode => choose(15, way, 0, 0, 0),
+        Message::LockMemory => choose(16, way, 0, 0, 0),
+        Message::LockStatusRequest => choose(17, way, 0, 0, 0),
+        Message::LockStatus { status: _ } => choose(18, way, 0, 0, 0),
         Message::PortInformationRequest {
             port: _,
             information: _,
-        } => goes_down(way),
+        } => choose(19, way, 0, 0, 0),
         Message::ModeInformationRequest {
             port: _,
             mode: _,
             information: _,
-        } => goes_down(way),
+        } => choose(20, way, 0, 0, 0),
         Message::InputFormatSetup {
             port: _,
             mode: _,
             delta: _,
             notify: _,
-        } => goes_down(way),
+        } => choose(21, way, 0, 0, 0),
         Message::PortModes {
             port: _,
             capabilities: _,
             mode_count: _,
             input_modes: _,
             output_modes: _,
-        } => goes_up(way, true, 4),
+        } => choose(22, way, 0, 1, 0),
         Message::PortCombinations {
             port: _,
             combinations: _,
-        } => goes_up(way, true, 4),
+        } => choose(23, way, 0, 2, 0),
         Message::ModeText {
             port: _,
             mode: _,
             information,
-        } => goes_up(way, is_text(information), 5),
+        } => choose(24, way, 0, 0, information),
         Message::ModeRange {
             port: _,
             mode: _,
             information,
             lowest: _,
             highest: _,
-        } => goes_up(way, is_range(information), 5),
+        } => choose(25, way, 0, 0, information),
         Message::ModeMapping {
             port: _,
             mode: _,
             mapping: _,
-        } => goes_up(way, true, 5),
+        } => choose(26, way, 0, 0, 5),
         Message::ModeBias {
             port: _,
             mode: _,
             bias: _,
-        } => goes_up(way, true, 5),
+        } => choose(27, way, 0, 0, 7),
         Message::ModeCapabilities {
             port: _,
             mode: _,
             bits: _,
-        } => goes_up(way, true, 5),
+        } => choose(28, way, 0, 0, 8),
         Message::ValueFormat {
             port: _,
             mode: _,
@@ -296,18 +336,18 @@ pub fn selected(m: Message, way: Way) -> Choice
             kind: _,
             figures: _,
             decimals: _,
-        } => goes_up(way, true, 5),
-        Message::PortValue { port: _ } => goes_up(way, true, 0),
+        } => choose(29, way, 0, 0, 0x80),
+        Message::PortValue { port: _ } => choose(30, way, 0, 0, 0),
         Message::InputFormat {
             port: _,
             mode: _,
             delta: _,
             notify: _,
-        } => goes_up(way, true, 0),
-        Message::VirtualDisconnect { port: _ } => goes_down(way),
+        } => choose(31, way, 0, 0, 0),
+        Message::VirtualDisconnect { port: _ } => choose(32, way, 0, 0, 0),
         Message::VirtualConnect {
             port_a: _,
             port_b: _,
-        } => goes_down(way),
+        } => choose(33, way, 1, 0, 0),
     }
 }

@@ -17,7 +17,7 @@ use Rattle.protocol.specs.Form.{Form, informationType, alertStatus, bootString,
 use Rattle.protocol.specs.Decode.{header}
 use Rattle.protocol.specs.Answer.{formOf, valuesOf}
 use Rattle.protocol.specs.Encode.{Encoded, encoded, refused, good, bad, taken, holds, fieldBytes, lowFirst, Written, outside, wrote, before, writeFields, restFits, thenRest, framed, closed, afterField, afterFields, frontValue, frontValues, encodeForm}
-use Rattle.writer.specs.Writing.{limited, writtenOf, lentAfter}
+use Rattle.writer.specs.Writing.{limited, answerOf, answered, lentAfter}
 use Rattle.protocol.specs.declared.Written.the-variants as Written'
 use Rattle.protocol.specs.declared.Combinations.{Combinations}
 use Rattle.protocol.specs.declared.Message.{Message}
@@ -307,7 +307,7 @@ unfolding openFits
 all-inside m opens slots x right e = by-slots m opens slots x right ∙ ap (finish opens) (all-written typePlace slots (omega arith) e)
 
 pub refused-answer : (x : Encoded) (n place room : ℕ) (out : List ℕ) → x ≡ refused n place
-    → (Written'.Refused n place ≡ writtenOf (limited room x)) × (out ≡ lentAfter (limited room x) out)
+    → (answerOf (Written'.Refused n place) ≡ answered (limited room x)) × (out ≡ lentAfter (limited room x) out)
 unfolding limited
 refused-answer x n place room out e =
-    (sym (ap (λ (y : Encoded). writtenOf (limited room y)) e), sym (ap (λ (y : Encoded). lentAfter (limited room y) out) e))
+    (sym (ap (λ (y : Encoded). answered (limited room y)) e), sym (ap (λ (y : Encoded). lentAfter (limited room y) out) e))

@@ -8,7 +8,7 @@ use borrow.Author.Tests.{lt-ltb, le-ltb}
 use lib.ListN.{length, set, drop, length-append, length-set}
 use Rattle.protocol.specs.Encode.{Encoded, encoded, refused}
 use Rattle.protocol.specs.declared.Written.the-variants.{Length, Refused}
-use Rattle.writer.specs.Writing.{limited, writtenOf, lentAfter}
+use Rattle.writer.specs.Writing.{limited, answerOf, written, answered, lentAfter}
 use Rattle.protocol.proofs.Overwrite.{overwrite-then}
 use Rattle.protocol.specs.Overwrite.{overwrite}
 use Rattle.writer.specs.Slots.{slotsBytes, typePlace, messageBytes}
@@ -60,15 +60,15 @@ module _ (slots : List Slot) (opens : List ℕ) (w : ℕ) (is : w ≡ length (sl
 
   -- the answer and the lent bytes afterwards, where there is no room
   pub short-answer : (out : List ℕ) → length out < typePlace + w + length opens
-      → (Refused 8 0 ≡ writtenOf (limited (length out) (encoded whole))) × (out ≡ lentAfter (limited (length out) (encoded whole)) out)
+      → (answerOf (Refused 8 0) ≡ answered (limited (length out) (encoded whole))) × (out ≡ lentAfter (limited (length out) (encoded whole)) out)
   short-answer out h =
-      let e = too-short (length out) h in (sym (ap writtenOf e), sym (ap (λ (x : Encoded). lentAfter x out) e))
+      let e = too-short (length out) h in (sym (ap answered e), sym (ap (λ (x : Encoded). lentAfter x out) e))
 
   -- and where there is
   pub whole-answer : (out last : List ℕ) → typePlace + w + length opens ≤ length out
       → last ≡ overwrite (overwrite (set (set out 0 (typePlace + w + length opens)) 1 0) typePlace (slotsBytes slots)) (typePlace + w) opens
-      → (Length (typePlace + w + length opens) ≡ writtenOf (limited (length out) (encoded whole))) × (last ≡ lentAfter (limited (length out) (encoded whole)) out)
+      → (answerOf (Length (typePlace + w + length opens)) ≡ answered (limited (length out) (encoded whole))) × (last ≡ lentAfter (limited (length out) (encoded whole)) out)
   whole-answer out last h is-put =
       let e : encoded whole ≡ limited (length out) (encoded whole) = sym (long-enough (length out) h) in
       let put : last ≡ lentAfter (encoded whole) out = is-put ∙ message-put out h in
-      (ap Length size-is ∙ ap writtenOf e, put ∙ ap (λ (x : Encoded). lentAfter x out) e)
+      (ap written size-is ∙ ap answered e, put ∙ ap (λ (x : Encoded). lentAfter x out) e)

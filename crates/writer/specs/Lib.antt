@@ -1,3 +1,4 @@
+pub mod Judged
 pub mod Open
 pub mod Slots
 pub mod Writing

@@ -19,9 +19,11 @@ ghost use Prim.Native.Nat.{_+_, _≤_};
 ghost use lib.ListN.{length};
 ghost use Rattle.protocol.specs.Decode.{longestMessage};
 ghost use Rattle.protocol.specs.Encode.{encode, encoded};
-ghost use Rattle.writer.specs.Writing.{lentAfter, limited, writtenOf};
 ghost use Rattle.protocol.specs.Overwrite.{overwrite};
+ghost use Rattle.slots.specs.Slot.{Slotted};
+ghost use Rattle.writer.specs.Judged.{Judged};
 ghost use Rattle.writer.specs.Slots.{firstOutside, messageBytes, slotsBytes, typePlace};
+ghost use Rattle.writer.specs.Writing.{answerOf, answered, lentAfter, limited};
 
 // The place of the first field that does not hold its value; 0 where all do.
 fn first_outside(slots: [Slot; 11]) -> u16
@@ -72,7 +74,7 @@ fn put_slots(out: &mut [u8], slots: [Slot; 11])
 // bytes.
 fn put_message(out: &mut [u8], slots: [Slot; 11], open: &[u8]) -> Written
     requires { ⌜ (length slots ≡ 11) × (firstOutside typePlace slots ≡ 0) × (length (messageBytes slots (now «open»)) ≤ longestMessage) ⌝ }
-    ensures { λ r. ⌜ (r ≡ writtenOf (limited (length (now (out .entry))) (encoded (messageBytes slots (now («open» .entry)))))) × (now (out .exit) ≡ lentAfter (limited (length (now (out .entry))) (encoded (messageBytes slots (now («open» .entry))))) (now (out .entry))) ⌝ }
+    ensures { λ r. ⌜ (answerOf r ≡ answered (limited (length (now (out .entry))) (encoded (messageBytes slots (now («open» .entry)))))) × (now (out .exit) ≡ lentAfter (limited (length (now (out .entry))) (encoded (messageBytes slots (now («open» .entry))))) (now (out .entry))) ⌝ }
 {
     let end = 2 + widths(slots);
     let size = end + open.len();
@@ -89,26 +91,48 @@ fn put_message(out: &mut [u8], slots: [Slot; 11], open: &[u8]) -> Written
     Written::Length(size as u16)
 }
 
-// Writes a message and its open bytes into the front of `out`. What is behind it keeps its contents;
-// a refused call changes nothing.
-pub fn write(m: Message, way: Way, open: &[u8], out: &mut [u8]) -> Written
-    ensures { λ r. ⌜ (r ≡ writtenOf (limited (length (now (out .entry))) (encode way m (now («open» .entry))))) × (now (out .exit) ≡ lentAfter (limited (length (now (out .entry))) (encode way m (now («open» .entry)))) (now (out .entry))) ⌝ }
+// Refusals 5, 7, 6 and 7 of a message with these slots.
+fn judged(m: Message, way: Way, open: &[u8], slots: [Slot; 11]) -> Choice
+    requires { ⌜ Slotted m slots ⌝ }
+    ensures { λ r. ⌜ Judged way m (now («open» .entry)) slots r ⌝ }
 {
     match selected(m, way) {
-        Choice::Refused { number, place } => Written::Refused { number, place },
+        Choice::Refused { number, place } => Choice::Refused { number, place },
         Choice::Chosen => {
             if !open_fits(m, open.len()) {
-                return Written::Refused {
+                return Choice::Refused {
                     number: 6,
                     place: 0,
                 };
             }
-            let slots = slots_of(m);
             let place = first_outside(slots);
             if place != 0 {
-                return Written::Refused { number: 7, place };
+                return Choice::Refused { number: 7, place };
             }
-            put_message(out, slots, open)
+            Choice::Chosen
         }
+    }
+}
+
+// What writing answers where there is room for the message.
+pub fn judge(m: Message, way: Way, open: &[u8]) -> Written
+    ensures { λ r. ⌜ answerOf r ≡ answered (encode way m (now («open» .entry))) ⌝ }
+{
+    let slots = slots_of(m);
+    match judged(m, way, open, slots) {
+        Choice::Refused { number, place } => Written::Refused { number, place },
+        Choice::Chosen => Written::Length((2 + widths(slots) + open.len()) as u16),
+    }
+}
+
+// Writes a message and its open bytes into the front of `out`. What is behind it keeps its contents;
+// a refused call changes nothing.
+pub fn write(m: Message, way: Way, open: &[u8], out: &mut [u8]) -> Written
+    ensures { λ r. ⌜ (answerOf r ≡ answered (limited (length (now (out .entry))) (encode way m (now («open» .entry))))) × (now (out .exit) ≡ lentAfter (limited (length (now (out .entry))) (encode way m (now («open» .entry)))) (now (out .entry))) ⌝ }
+{
+    let slots = slots_of(m);
+    match judged(m, way, open, slots) {
+        Choice::Refused { number, place } => Written::Refused { number, place },
+        Choice::Chosen => put_message(out, slots, open),
     }
 }

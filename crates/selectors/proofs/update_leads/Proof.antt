@@ -1,0 +1,20 @@
+use mathlib.Core.Bool.{or-false}
+use borrow.Author.Needs.{needs}
+use Rattle.selectors.proofs.update_leads.Statement.{statement}
+use Rattle.selectors.proofs.update_leads.Tie as tie
+
+enum-told : tie.Need-enum-told
+enum-told c = search needs
+
+enum-told-2 : tie.Need-enum-told-2
+enum-told-2 c = search needs
+
+returns : tie.Need-returns
+returns c = search needs
+
+returns-2 : tie.Need-returns-2
+returns-2 c =
+    rw (c .enum-told2 .given .1, or-false)
+
+pub update-leads-spec : {M : Type 1} → statement M
+update-leads-spec = tie.close (tie.spec enum-told enum-told-2 returns returns-2)

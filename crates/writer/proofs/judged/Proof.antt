@@ -1,0 +1,61 @@
+use mathlib.Core.Path.{sym, _∙_, ap}
+use borrow.Author.Tests.{not-true, not-false}
+use Rattle.protocol.specs.Encode.{refused}
+use Rattle.selectors.proofs.Choices.{by-choice, chosen}
+use Rattle.writer.proofs.Encoding.{wrong-size, a-field-outside}
+use Rattle.writer.proofs.Judging.{all-good}
+use borrow.Author.Needs.{needs}
+use Rattle.writer.proofs.judged.Statement.{statement}
+use Rattle.writer.proofs.judged.Tie as tie
+
+selected-requires : tie.Need-selected-requires
+selected-requires c κs = search needs
+
+enum-known-number : tie.Need-enum-known-number
+enum-known-number c = search needs
+
+enum-told : tie.Need-enum-told
+enum-told c = search needs
+
+open-fits-requires : tie.Need-open-fits-requires
+open-fits-requires c κs = search needs
+
+returns : tie.Need-returns
+returns c =
+    let a = c .before .before .before .before .before .before .args in
+    chosen (a .way) (a .m) (a .«open» .now) _ (c .before .before .before .before .selected .ensures) (c .before .before .enum-told .given .1) ∙ wrong-size (a .m) (a .«open» .now) (sym (c .before .open-fits .ensures) ∙ not-true _ (c .if1 .taken))
+
+first-outside-requires : tie.Need-first-outside-requires
+first-outside-requires c κs =
+    c .before .before .before .before .before .before .pre .eleven
+
+returns-2 : tie.Need-returns-2
+returns-2 c =
+    let a = c .before .before .before .before .before .before .before .before .args in
+    chosen (a .way) (a .m) (a .«open» .now) _ (c .before .before .before .before .before .before .selected .ensures) (c .before .before .before .before .enum-told .given .1)
+    ∙ a-field-outside (a .m) (a .«open» .now) (a .slots) (c .before .before .before .before .before .before .before .before .pre) (sym (c .before .before .before .open-fits .ensures) ∙ not-false _ (c .before .before .if1 .left)) (λ e. c .if2 .taken (c .before .first-outside .ensures ∙ e))
+    ∙ ap (refused 7) (sym (c .before .first-outside .ensures))
+
+returns-3 : tie.Need-returns-3
+returns-3 c =
+    let a = c .before .before .before .before .before .args in
+    by-choice (a .way) (a .m) (a .«open» .now) _ _ (c .before .before .before .selected .ensures) (c .before .number .given .1)
+
+returns-4 : tie.Need-returns-4
+returns-4 c =
+    let a = c .before .before .before .before .before .before .before .before .args in
+    all-good (a .way) (a .m) (a .«open» .now) (a .slots) (c .before .before .before .before .before .before .before .before .pre) (chosen (a .way) (a .m) (a .«open» .now) _ (c .before .before .before .before .before .before .selected .ensures) (c .before .before .before .before .enum-told .given .1)) (sym (c .before .before .before .open-fits .ensures) ∙ not-false _ (c .before .before .if1 .left)) (sym (c .before .first-outside .ensures) ∙ c .if2 .left)
+
+pub judged-spec : {M : Type 1} → statement M
+judged-spec =
+    tie.close
+    (tie.spec
+    selected-requires
+    enum-known-number
+    enum-told
+    open-fits-requires
+    returns
+    first-outside-requires
+    returns-2
+    returns-3
+    returns-4)
