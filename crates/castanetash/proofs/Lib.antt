@@ -1,1 +1,2 @@
 pub mod OpenPart
+pub mod Values
