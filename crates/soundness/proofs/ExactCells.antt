@@ -45,12 +45,6 @@ module _ (place : List ℕ) (k : ℕ) (size : length place ≡ stride) where
       let none-left : stride - k ≡ 0 = omega arith in
       ap (λ (n : ℕ). sameCells (drop k place) (replicate n 0)) none-left ∙ ap (λ (l : List ℕ). sameCells l []) (drop-of-length-le place {i = k} (omega arith))
 
--- ---- a setup
-
-pub setup-exact : (mode delta notify : ℕ) → (not (eqb mode 0) || (eqb delta 0 && eqb notify 0)) ≡ sameCells (mode ∷ delta ∷ notify ∷ []) (setupCells (setupAt mode delta notify))
-setup-exact zero delta notify = ap (λ (b : Bool). eqb delta 0 && b) (sym (and-true (eqb notify 0)))
-setup-exact (suc m) delta notify = ap (λ (b : Bool). not b || (eqb delta 0 && eqb notify 0)) (eqb·suc-zero m) ∙ sym (same-refl (suc m ∷ delta ∷ notify ∷ []))
-
 -- ---- a record
 
 pub same-append : (a b c d : List ℕ) → length a ≡ length b → sameCells (a ++ c) (b ++ d) ≡ (sameCells a b && sameCells c d)
