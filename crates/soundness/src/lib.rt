@@ -1,5 +1,6 @@
-// Whether a slice of cells is a sound table, and where a port's record stands in it. Tests are joined by `&` and `|`,
-// without branches: a sound table passes them all anyway, and the answer is then the definition as it stands.
+// Whether a slice of cells is a sound table, and where a port's record stands in it. Tests of cells are joined by `&` and
+// `|`, and a loop over the cells of a place goes to its end, so that it needs no branches; what several tests say is joined
+// by `&&`, which costs less than keeping each answer.
 ghost use mathlib.Core.Path.{_≡_};
 ghost use Prim.Native.Nat.{_<_};
 ghost use lib.ListN.{length};
@@ -13,6 +14,7 @@ use crate::exact::is_empty;
 use crate::place::place_at;
 use crate::record::settings_fit;
 use crate::row::NOWHERE;
+use crate::row::ROW;
 use crate::row::note_all;
 use crate::wiring::wiring_fits;
 use rules::layout::DEVICE;
@@ -40,7 +42,7 @@ fn is_sound_record(table: &[u32], row: &[u8], place: &[u32]) -> bool
         && wiring_fits(table, row, place)
 }
 
-// Whether a place is free and empty, or has a sound record. Its port is in no later place, as `row` says.
+// Whether a place is free and empty, or has a sound record. That its port is in no later place was seen with the row.
 fn is_sound_place(table: &[u32], row: &[u8], i: usize) -> bool
     requires { ⌜ (length (now table) ≡ tableSize) × Indexed (now table) (now row) 0 × (i < places) ⌝ }
     ensures { λ r. ⌜ r ≡ soundPlace (now (table .entry)) i ⌝ }
@@ -59,7 +61,7 @@ pub fn is_sound(table: &[u32]) -> bool
     if table.len() != TABLE_SIZE {
         return false;
     }
-    let mut row = [NOWHERE; 256];
+    let mut row = [NOWHERE; ROW];
     if !note_all(table, &mut row) {
         return false;
     }

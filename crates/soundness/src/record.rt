@@ -38,7 +38,8 @@ fn one_less(n: u32) -> u32
     n - 1
 }
 
-// Whether a format's cell is within its lists. One less than it has a dataset less, and none is then as good as one.
+// Whether a format's cell is within its lists. One less is tested: then 1 to 16 datasets are 0 to 15, none are 255, and no
+// format at all, 0, stays 0 and passes.
 fn format_fits(format: u32) -> bool
     ensures { λ r. ⌜ r ≡ formatFits (formatAt format) ⌝ }
 {

@@ -11,10 +11,13 @@ use rules::layout::PORT_COUNT;
 use rules::layout::STRIDE;
 use rules::layout::WIRING;
 
+// The length of the row.
+pub(crate) const ROW: usize = PORT_COUNT as usize;
+
 // What the row has for a port that is not present.
 pub(crate) const NOWHERE: u8 = PLACES as u8;
 
-// Notes a place in the row of those after it; not where its port is none, or stands in one of those.
+// Notes a place in a row that has the places after it. False where its port is too large, or stands in one of those.
 fn note(table: &[u32], row: &mut [u8], i: usize) -> bool
     requires { ⌜ (length (now table) ≡ tableSize) × (i < places) × Indexed (now table) (now row) (i + 1) ⌝ }
     ensures { λ r. ⌜ Noted (now (table .entry)) (now (row .exit)) i r ⌝ }
@@ -34,7 +37,7 @@ fn note(table: &[u32], row: &mut [u8], i: usize) -> bool
     true
 }
 
-// Notes every place, the last one first.
+// Notes every place, the last one first. False where the table is not sound for its ports.
 pub(crate) fn note_all(table: &[u32], row: &mut [u8]) -> bool
     requires { ⌜ (length (now table) ≡ tableSize) × (now row ≡ replicate portCount places) ⌝ }
     ensures { λ r. ⌜ Noted (now (table .entry)) (now (row .exit)) 0 r ⌝ }

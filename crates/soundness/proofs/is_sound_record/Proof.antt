@@ -35,9 +35,13 @@ wiring-fits-requires c κs = search needs
 -- the tests before the last one
 so-far : (c : lts.Joined2 (exact-wiring-reads.Asked, exact-wiring-reads.Learnt, settings-fit-reads.Asked, settings-fit-reads.Learnt, wiring-fits-reads.Asked, wiring-fits-reads.Learnt) reads.Pre reads.Post) → let place = c .before .before .before .before .before .before .args .place .now in c .if2 .if3 ≡ (exactWiring place && (ltb (cellAt place portIndex) portCount && ltb (cellAt place deviceIndex) 65536) && soundSettings place)
 so-far c =
-    let first = c .before .before .exact-wiring .ensures in
-    let two = ⊎-elim (λ w. passes first (w .0 .taken) refl (w .3)) (λ w. fails _ first (w .0 .left) (w .1)) (c .before .if1 .came) in
-    ⊎-elim (λ w. passes two (w .0 .taken) (w .1 .ensures) (w .2)) (λ w. fails _ two (w .0 .left) (w .1)) (c .if2 .came)
+    let place = c .before .before .before .before .before .before .args .place .now in
+    let small = ltb (cellAt place portIndex) portCount && ltb (cellAt place deviceIndex) 65536 in
+    let wiring : c .before .before .exact-wiring .result ≡ exactWiring place = c .before .before .exact-wiring .ensures in
+    let numbers : c .before .if1 .if2 ≡ (exactWiring place && small) =
+    ⊎-elim (λ w. passes wiring (w .0 .taken) refl (w .3)) (λ w. fails small wiring (w .0 .left) (w .1)) (c .before .if1 .came)
+    in
+    ⊎-elim (λ w. passes numbers (w .0 .taken) (w .1 .ensures) (w .2)) (λ w. fails (soundSettings place) numbers (w .0 .left) (w .1)) (c .if2 .came)
 
 returns : tie.Need-returns
 returns c =

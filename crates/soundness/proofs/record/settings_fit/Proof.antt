@@ -33,10 +33,15 @@ experiment-fits-requires c κs = search needs
 -- the tests before the last one
 so-far : (c : lts.Joined3 (formats-fit-reads.Asked, formats-fit-reads.Learnt, setup-fits-reads.Asked, setup-fits-reads.Learnt, state-fits-reads.Asked, state-fits-reads.Learnt, experiment-fits-reads.Asked, experiment-fits-reads.Learnt) reads.Pre reads.Post) → let place = c .before .before .before .before .before .args .place .now in c .if3 .if4 ≡ (formatsInFit place && soundSetup place answeredIndex && soundSetup place askedIndex && stateInFits place)
 so-far c =
-    let first = c .before .before .before .formats-fit .ensures in
-    let two = ⊎-elim (λ w. passes first (w .0 .taken) (w .1 .ensures) (w .2)) (λ w. fails _ first (w .0 .left) (w .1)) (c .before .before .if1 .came) in
-    let three = ⊎-elim (λ w. passes two (w .0 .taken) (w .1 .ensures) (w .2)) (λ w. fails _ two (w .0 .left) (w .1)) (c .before .if2 .came) in
-    ⊎-elim (λ w. passes three (w .0 .taken) (w .1 .ensures) (w .2)) (λ w. fails _ three (w .0 .left) (w .1)) (c .if3 .came)
+    let place = c .before .before .before .before .before .args .place .now in
+    let formats : c .before .before .before .formats-fit .result ≡ formatsInFit place = c .before .before .before .formats-fit .ensures in
+    let answered : c .before .before .if1 .if2 ≡ (formatsInFit place && soundSetup place answeredIndex) =
+    ⊎-elim (λ w. passes formats (w .0 .taken) (w .1 .ensures) (w .2)) (λ w. fails (soundSetup place answeredIndex) formats (w .0 .left) (w .1)) (c .before .before .if1 .came)
+    in
+    let asked : c .before .if2 .if3 ≡ (formatsInFit place && soundSetup place answeredIndex && soundSetup place askedIndex) =
+    ⊎-elim (λ w. passes answered (w .0 .taken) (w .1 .ensures) (w .2)) (λ w. fails (soundSetup place askedIndex) answered (w .0 .left) (w .1)) (c .before .if2 .came)
+    in
+    ⊎-elim (λ w. passes asked (w .0 .taken) (w .1 .ensures) (w .2)) (λ w. fails (stateInFits place) asked (w .0 .left) (w .1)) (c .if3 .came)
 
 returns : tie.Need-returns
 returns c = passes (so-far (c .before .before)) (c .before .if4 .taken) (c .experiment-fits .ensures) refl ∙ settings-sound (c .before .before .before .before .before .before .before .args .place .now)
