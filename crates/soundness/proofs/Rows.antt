@@ -1,8 +1,7 @@
 -- The row of each port's place, from place to place.
-use Prim.Native.Nat.{ℕ, zero, suc, _+_, _-_, _≤_, _<_}
-use native.Mathlib.Nat.{add-zero}
+use Prim.Native.Nat.{ℕ, _+_, _-_, _≤_, _<_}
 use native.Mathlib.Omega.{arith}
-use mathlib.Core.Path.{_≡_, refl, sym, _∙_, ap}
+use mathlib.Core.Path.{_≡_, refl, sym, _∙_, ap, subst}
 use mathlib.Core.Bool.{Bool, true, false, not, _&&_, and-false, true≢false, false≢true}
 use mathlib.Core.List.{List}
 use mathlib.Core.Option.{none}
@@ -19,9 +18,9 @@ use Rattle.rules.specs.WellFormed.{factsFit, wiringFits, recordFits}
 use Rattle.rules.specs.Cells.{cellAt, recordAt, tableAt, sound}
 use Rattle.soundness.specs.Place.{placeAtIndex, cellOf, factsAt, portAt, placeOf, findPlace, fromPlace}
 use Rattle.soundness.specs.Soundness.{exactRecord, soundPlace}
-use Rattle.soundness.specs.Row.{Indexed, Noted}
+use Rattle.soundness.specs.Row.{Alone, Indexed, Noted}
 use Rattle.soundness.proofs.Places.{cell, place-end, place-here, place-later, place-start, step-on, step-last, found-from, find-place, nowhere, not-from}
-use Rattle.soundness.proofs.Sound.{soundFrom, sound-start, sound-next, record-sound}
+use Rattle.soundness.proofs.Sound.{unsound, record-sound}
 
 pub noted-right : {cells row : List ℕ} {i : ℕ} → Indexed cells row i → Noted cells row i true
 noted-right h = record { right = λ e. h; wrong = λ e. absurd (true≢false e) }
@@ -49,25 +48,13 @@ row-alone cells row place i h x is used =
     let port = ap (λ (l : List ℕ). cellAt l portIndex) is ∙ cell cells i portIndex (omega arith) in
     ap (viewOfTable (fromPlace cells (i + 1))) port ∙ x .once i (omega arith) h (λ free. used (wiring ∙ free))
 
--- a place that is not sound makes the table not sound
-module _ (cells : List ℕ) (size : length cells ≡ tableSize) where
-  down : (i : ℕ) → i ≤ places → soundFrom cells i ≡ false → soundFrom cells 0 ≡ false
-  down zero h e = e
-  down (suc i) h e =
-      let next : i + 1 ≡ suc i = omega arith in
-      down i (omega arith) (sound-next cells i size (omega arith) ∙ ap (λ (k : ℕ). soundPlace cells i && soundFrom cells k) next ∙ ap (λ (b : Bool). soundPlace cells i && b) e ∙ and-false (soundPlace cells i))
-
-  pub unsound : (i : ℕ) → i < places → soundPlace cells i ≡ false → sound cells ≡ false
-  unsound i h e = sound-start cells ∙ down i (omega arith) (sound-next cells i size h ∙ ap (λ (b : Bool). b && soundFrom cells (i + 1)) e)
-
 -- one place more
 module _ (cells row : List ℕ) (i : ℕ) (h : i < places) (x : Indexed cells row (i + 1)) where
-  -- its port stands in no later place: so does no port from it on
-  once-more : ((cellOf cells i wiringIndex ≡ 0 → ⊥) → viewOfTable (fromPlace cells (i + 1)) (cellOf cells i portIndex) ≡ none) → (j : ℕ) → i ≤ j → j < places → (cellOf cells j wiringIndex ≡ 0 → ⊥) → viewOfTable (fromPlace cells (j + 1)) (cellOf cells j portIndex) ≡ none
-  once-more here j from low used =
+  once-more : Alone cells i → (j : ℕ) → i ≤ j → j < places → Alone cells j
+  once-more here j from low =
       ⊎-elim
-      (λ (k : eqb j i ≡ true). let is : j ≡ i = eqb-true j i k in rw is (here (rw is at used)))
-      (λ (k : eqb j i ≡ false). let other = eqb-false j i k in x .once j (omega arith) low used)
+      (λ (k : eqb j i ≡ true). subst (Alone cells) (sym (eqb-true j i k)) here)
+      (λ (k : eqb j i ≡ false). let other = eqb-false j i k in x .once j (omega arith) low)
       (which (eqb j i))
 
   later : (port : ℕ) → port < portCount → portAt cells i port ≡ false → getD row port 0 ≡ i + placeOf (fromPlace cells i) port
@@ -119,7 +106,7 @@ module _ (cells row : List ℕ) (i : ℕ) (h : i < places) (x : Indexed cells ro
         once = once-more (λ u. found-from cells here (places - (i + 1)) (i + 1) (omega arith) ∙ ap (factsAt cells) (sym (x .first here low) ∙ new) ∙ nowhere cells);
       }
 
-    -- ---- and what makes the table not sound
+    -- ---- what makes the table not sound
 
     abbrev place : List ℕ
     place = placeAtIndex cells i

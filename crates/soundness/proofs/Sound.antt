@@ -1,8 +1,8 @@
 -- Soundness of cells, place by place.
-use Prim.Native.Nat.{ℕ, _+_, _*_, _-_, _≤_, _<_}
+use Prim.Native.Nat.{ℕ, zero, suc, _+_, _*_, _-_, _≤_, _<_}
 use native.Mathlib.Omega.{arith}
 use mathlib.Core.Path.{_≡_, refl, sym, _∙_, ap}
-use mathlib.Core.Bool.{Bool, true, false, cond, not, _&&_, and-true, and-assoc}
+use mathlib.Core.Bool.{Bool, true, false, cond, not, _&&_, and-true, and-false, and-assoc}
 use mathlib.Core.List.{List, _∷_, _++_}
 use mathlib.Core.Option.{Option, none, some}
 use mathlib.Core.Logic.{⊎-elim}
@@ -65,6 +65,18 @@ module _ (cells : List ℕ) (i : ℕ) (size : length cells ≡ tableSize) where
       ∙ ap (λ (t : Table). sameCells (place ++ rest) (cellsOf t) && placesFit view t) (next cells i h)
       ∙ (λ j. same-append place (placeCells p) rest (cellsOf later) (place-size cells i size h ∙ sym (place-length p)) j && place-then view p later j)
       ∙ crossed (sameCells place (placeCells p)) (sameCells rest (cellsOf later)) (placeFits view later p) (placesFit view later)
+
+-- one place that is not sound is enough
+
+module _ (cells : List ℕ) (size : length cells ≡ tableSize) where
+  back : (i : ℕ) → i ≤ places → soundFrom cells i ≡ false → soundFrom cells 0 ≡ false
+  back zero h e = e
+  back (suc i) h e =
+      let one : i + 1 ≡ suc i = omega arith in
+      back i (omega arith) (sound-next cells i size (omega arith) ∙ ap (λ (k : ℕ). soundPlace cells i && soundFrom cells k) one ∙ ap (λ (b : Bool). soundPlace cells i && b) e ∙ and-false (soundPlace cells i))
+
+  pub unsound : (i : ℕ) → i < places → soundPlace cells i ≡ false → sound cells ≡ false
+  unsound i h e = sound-start cells ∙ back i (omega arith) (sound-next cells i size h ∙ ap (λ (b : Bool). b && soundFrom cells (i + 1)) e)
 
 pub wrong-size : (cells : List ℕ) → (length cells ≡ tableSize → ⊥) → false ≡ sound cells
 wrong-size cells n = ⊎-elim (λ (k : sound cells ≡ true). absurd (n (sound-length cells k))) (λ (k : sound cells ≡ false). sym k) (which (sound cells))

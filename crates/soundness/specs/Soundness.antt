@@ -51,7 +51,7 @@ stateInFits place = stateFits (setupFrom place askedIndex) (setupFrom place answ
 unfoldable pub experimentInFits : List ℕ → Bool
 experimentInFits place = experimentFits (setupFrom place askedIndex) (cellAt place experimentIndex)
 
--- ---- both
+-- ---- exact, and within the lists
 
 unfoldable pub soundSetup : List ℕ → ℕ → Bool
 soundSetup place at = exactSetup place at && setupFits (setupFrom place at)

@@ -1,10 +1,4 @@
-use mathlib.Core.Path.{_≡_, sym, _∙_, ap}
-use native.Mathlib.Omega.{arith}
-use mathlib.Core.Option.{none}
-use Prim.Native.Nat.{ℕ, _+_}
-use Rattle.rules.specs.Layout.{wiringIndex, portIndex}
-use Rattle.rules.specs.Cells.{cellAt}
-use Rattle.soundness.specs.Place.{cellOf}
+use mathlib.Core.Path.{_∙_}
 use Rattle.soundness.proofs.Sound.{free-sound, record-alone}
 use Rattle.soundness.proofs.Rows.{row-alone}
 use borrow.Author.Needs.{needs}
