@@ -1,7 +1,7 @@
 use native.Mathlib.Omega.{arith}
 use borrow.Author.Needs.{needs}
 use Rattle.soundness.proofs.Loops.{joins, joined}
-use Prim.Native.Nat.{_-_, _≤_}
+use Prim.Native.Nat.{_-_, _≤_, _<_}
 use mathlib.Core.Path.{_≡_}
 use mathlib.Core.Bool.{_&&_}
 use lib.Dec.{eqb}
@@ -37,8 +37,8 @@ loop-again : tie.Need-loop-again Inv-loop μ-loop
 loop-again c =
     let place = c .before .before .before .args .place .now in
     let loop = c .before .before .loop in
-    let below = c .before .loop-test .taken in
-    (omega (arith, below), joins (loop .empty) (eqb (cellAt place (loop .k)) 0) _ (loop .inv .1) (empty-next place (loop .k) (c .before .before .before .pre) below))
+    let below : loop .k < stride = omega (arith, c .before .loop-test .taken) in
+    (omega arith, joins (loop .empty) (eqb (cellAt place (loop .k)) 0) _ (loop .inv .1) (empty-next place (loop .k) (c .before .before .before .pre) below))
 
 returns : tie.Need-returns Inv-loop μ-loop
 returns c =

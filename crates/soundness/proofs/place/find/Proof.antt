@@ -1,4 +1,4 @@
-use Prim.Native.Nat.{_+_, _-_, _≤_}
+use Prim.Native.Nat.{_+_, _-_, _≤_, _<_}
 use native.Mathlib.Omega.{arith}
 use mathlib.Core.Path.{_≡_, sym, _∙_}
 use borrow.Author.Needs.{needs}
@@ -23,14 +23,14 @@ loop-holds c =
     (omega arith, find-place (a .table .now) (c .if1 .left) (a .port) ∙ place-start (a .table .now) (a .port))
 
 is-at-requires : tie.Need-is-at-requires Inv-loop μ-loop
-is-at-requires c κs = (c .before .before .if1 .left, c .loop-test .taken)
+is-at-requires c κs = (c .before .before .if1 .left, omega (arith, c .loop-test .taken))
 
 returns-2 : tie.Need-returns-2 Inv-loop μ-loop
 returns-2 c =
     let a = c .before .before .before .before .before .before .args in
     let loop = c .before .before .before .loop in
-    let below = c .before .before .loop-test .taken in
-    (omega (arith, below), step-last _ (loop .i) _ (loop .inv .1) (place-here (a .table .now) (loop .i) (a .port) below (sym (c .before .is-at .ensures) ∙ c .if2 .taken)))
+    let below : loop .i < places = omega (arith, c .before .before .loop-test .taken) in
+    (omega arith, step-last _ (loop .i) _ (loop .inv .1) (place-here (a .table .now) (loop .i) (a .port) below (sym (c .before .is-at .ensures) ∙ c .if2 .taken)))
 
 add-i : tie.Need-add-i Inv-loop μ-loop
 add-i c = search needs
@@ -42,8 +42,8 @@ loop-again : tie.Need-loop-again Inv-loop μ-loop
 loop-again c =
     let a = c .before .before .before .before .before .before .args in
     let loop = c .before .before .before .loop in
-    let below = c .before .before .loop-test .taken in
-    (omega (arith, below), step-on _ (loop .i) _ _ (loop .inv .1) (place-later (a .table .now) (loop .i) (a .port) below (sym (c .before .is-at .ensures) ∙ c .if2 .left)))
+    let below : loop .i < places = omega (arith, c .before .before .loop-test .taken) in
+    (omega arith, step-on _ (loop .i) _ _ (loop .inv .1) (place-later (a .table .now) (loop .i) (a .port) below (sym (c .before .is-at .ensures) ∙ c .if2 .left)))
 
 returns-3 : tie.Need-returns-3 Inv-loop μ-loop
 returns-3 c =

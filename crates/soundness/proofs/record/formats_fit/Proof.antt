@@ -1,7 +1,7 @@
 use native.Mathlib.Omega.{arith}
 use borrow.Author.Needs.{needs}
 use Rattle.soundness.proofs.Loops.{joins, joined}
-use Prim.Native.Nat.{_-_, _≤_}
+use Prim.Native.Nat.{_-_, _≤_, _<_}
 use mathlib.Core.Path.{_≡_, sym, _∙_, ap}
 use mathlib.Core.Bool.{Bool, _&&_}
 use Rattle.rules.specs.Layout.{modeCount}
@@ -41,8 +41,9 @@ loop-again : tie.Need-loop-again Inv-loop μ-loop
 loop-again c =
     let place = c .before .before .before .before .before .args .place .now in
     let loop = c .before .before .before .loop in
+    let left : 0 < loop .mode = omega (arith, c .before .before .loop-test .taken) in
     let later : Bool = formatsBelow place (loop .mode - 1) in
-    let next = formats-next place (loop .mode) (loop .inv .0) (c .before .before .loop-test .taken) ∙ ap (λ (b : Bool). b && later) (sym (c .format-fits .ensures)) in
+    let next = formats-next place (loop .mode) (loop .inv .0) left ∙ ap (λ (b : Bool). b && later) (sym (c .format-fits .ensures)) in
     (omega (arith, loop .inv .0), joins (loop .fit) (c .format-fits .result) later (loop .inv .1) next)
 
 returns : tie.Need-returns Inv-loop μ-loop
