@@ -1,6 +1,6 @@
-use mathlib.Core.Bool.{not, _&&_}
+use mathlib.Core.Bool.{_&&_}
 use borrow.Author.Tests.{ltb-true}
-use lib.Dec.{eqb, ltb}
+use lib.Dec.{ltb}
 use Rattle.protocol.proofs.Tests.{and-left, and-right}
 use Rattle.rules.specs.Layout.{portCount}
 use Rattle.soundness.proofs.Loops.{both-pass, neither}
@@ -11,14 +11,14 @@ is-joined-to-requires : tie.Need-is-joined-to-requires
 is-joined-to-requires c κs =
     let start = c .before .before .before in
     let a = start .args in
-    let low = and-left (ltb (a .first) portCount && ltb (a .second) portCount) (not (eqb (a .first) (a .second))) (c .if1 .taken) in
+    let low = and-left (ltb (a .first) portCount && ltb (a .second) portCount) _ (c .if1 .taken) in
     (start .pre .0, start .pre .1, ltb-true (a .first) portCount (and-left (ltb (a .first) portCount) (ltb (a .second) portCount) low))
 
 is-joined-to-requires-2 : tie.Need-is-joined-to-requires-2
 is-joined-to-requires-2 c κs =
     let start = c .before .before .before .before in
     let a = start .args in
-    let low = and-left (ltb (a .first) portCount && ltb (a .second) portCount) (not (eqb (a .first) (a .second))) (c .before .if1 .taken) in
+    let low = and-left (ltb (a .first) portCount && ltb (a .second) portCount) _ (c .before .if1 .taken) in
     (start .pre .0, start .pre .1, ltb-true (a .second) portCount (and-right (ltb (a .first) portCount) (ltb (a .second) portCount) low))
 
 returns : tie.Need-returns
