@@ -4,18 +4,18 @@ use Prim.Native.Nat.{ℕ, zero, suc, _+_, _-_, _≤_, _<_}
 use native.Mathlib.Nat.{add-zero}
 use native.Mathlib.Omega.{arith}
 use mathlib.Core.Path.{_≡_, refl, sym, _∙_, ap}
-use mathlib.Core.Bool.{Bool, true, false, not, _&&_, _||_, and-true, and-assoc}
+use mathlib.Core.Bool.{Bool, true, false, _&&_, and-true, and-assoc}
 use mathlib.Core.List.{List, [], _∷_, _++_}
 use mathlib.Core.Option.{Option, none, some}
 use borrow.Author.Tests.{eq-eqb}
-use lib.Dec.{eqb, eqb·suc-zero}
+use lib.Dec.{eqb}
 use lib.ListN.{length, take, drop, replicate, length-drop, drop-of-length-le}
 use lib.Seq.{take-all, drop-cons}
 use Rattle.protocol.specs.Form.{upFrom}
 use Rattle.rules.specs.declared.Setup.{Setup}
 use Rattle.rules.specs.declared.Wiring.{Wiring}
 use Rattle.rules.specs.Layout.{modeCount, stride, portIndex, deviceIndex, wiringIndex, firstIndex, secondIndex, stateIndex, askedIndex, experimentIndex, answeredIndex, formatsIndex}
-use Rattle.rules.specs.Cells.{formatCell, setupCells, wiringCell, firstPartner, secondPartner, formatCells, modes, recordCells, cellAt, formatAt, setupAt, setupFrom, recordAt, sameCells}
+use Rattle.rules.specs.Cells.{formatCell, setupCells, wiringCell, firstPartner, secondPartner, formatCells, modes, recordCells, cellAt, formatAt, setupFrom, recordAt, sameCells}
 use Rattle.rules.proofs.CellsSound.{same-refl}
 use Rattle.soundness.specs.Soundness.{wiringIn, emptyPlace, exactSetup, exactAs, exactWiring, exactRecord}
 
@@ -44,12 +44,6 @@ module _ (place : List ℕ) (k : ℕ) (size : length place ≡ stride) where
   empty-done h =
       let none-left : stride - k ≡ 0 = omega arith in
       ap (λ (n : ℕ). sameCells (drop k place) (replicate n 0)) none-left ∙ ap (λ (l : List ℕ). sameCells l []) (drop-of-length-le place {i = k} (omega arith))
-
--- ---- a setup
-
-pub setup-exact : (mode delta notify : ℕ) → (not (eqb mode 0) || (eqb delta 0 && eqb notify 0)) ≡ sameCells (mode ∷ delta ∷ notify ∷ []) (setupCells (setupAt mode delta notify))
-setup-exact zero delta notify = ap (λ (b : Bool). eqb delta 0 && b) (sym (and-true (eqb notify 0)))
-setup-exact (suc m) delta notify = ap (λ (b : Bool). not b || (eqb delta 0 && eqb notify 0)) (eqb·suc-zero m) ∙ sym (same-refl (suc m ∷ delta ∷ notify ∷ []))
 
 -- ---- a record
 

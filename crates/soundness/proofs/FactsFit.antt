@@ -2,35 +2,67 @@
 use Prim.Native.Nat.{ℕ, zero, suc, _+_, _-_, _/_, _%_, _≤_, _<_}
 use native.Mathlib.Omega.{arith}
 use mathlib.Core.Path.{_≡_, refl, sym, _∙_, ap}
-use mathlib.Core.Bool.{Bool, true, cond, _&&_, _||_, and-true}
-use mathlib.Core.List.{List}
-use borrow.Author.Tests.{lt-ltb}
+use mathlib.Core.Bool.{Bool, true, false, cond, _&&_, _||_, and-true, and-assoc}
+use mathlib.Core.List.{List, [], _∷_}
+use mathlib.Core.Logic.{⊎-elim}
+use borrow.Author.Tests.{lt-ltb, le-leb, lt-leb, leb-true, leb-false}
 use lib.Dec.{eqb, leb, ltb, leb·suc-suc, eqb·suc-zero, eqb·suc-suc}
 use lib.ListN.{drop}
 use lib.Seq.{getD-take, getD-drop}
 use Rattle.rules.specs.Layout.{modeCount, experimentCount, stateIndex, askedIndex, experimentIndex, answeredIndex, formatsIndex}
+use Rattle.protocol.proofs.Tests.{which}
+use Rattle.protocol.specs.Rule.{between}
 use Rattle.protocol.specs.Form.{lastMode, lastNotify, mostDatasets, lastKind}
 use Rattle.rules.specs.WellFormed.{setupFits, formatFits, formatsFit, stateFits, experimentFits}
-use Rattle.rules.specs.Cells.{cellAt, formatAt, setupAt, settingsAt}
-use Rattle.soundness.specs.Soundness.{formatsInFit, sameSetups, stateInFits, experimentInFits}
+use Rattle.rules.specs.Cells.{setupCells, cellAt, formatAt, setupAt, setupFrom, settingsAt, sameCells}
+use Rattle.rules.proofs.CellsSound.{same-refl}
+use Rattle.soundness.specs.Soundness.{exactSetup, formatsInFit, sameSetups, stateInFits, experimentInFits, soundSetup, soundSettings}
 
 -- ---- a setup, whose delta is a cell
 
-pub setup-fits : (mode delta notify : ℕ) → delta < 4294967296 → (eqb mode 0 || (leb mode modeCount && leb notify lastNotify)) ≡ setupFits (setupAt mode delta notify)
-setup-fits zero delta notify h = refl
-setup-fits (suc m) delta notify h =
-    ap (λ (b : Bool). b || (leb (suc m) modeCount && leb notify lastNotify)) (eqb·suc-zero m)
-    ∙ ap (λ (b : Bool). b && leb notify lastNotify) (leb·suc-suc m lastMode ∙ sym (and-true (leb m lastMode)) ∙ ap (λ (b : Bool). leb m lastMode && b) (sym (lt-ltb delta 4294967296 h)))
+-- by the test of its mode
+pub setup-fits : (mode delta notify : ℕ) {unset : Bool} → eqb mode 0 ≡ unset → delta < 4294967296 → cond unset (eqb delta 0 && eqb notify 0) (leb mode modeCount && leb notify lastNotify) ≡ (sameCells (mode ∷ delta ∷ notify ∷ []) (setupCells (setupAt mode delta notify)) && setupFits (setupAt mode delta notify))
+setup-fits mode delta notify e h = ap (λ (b : Bool). cond b (eqb delta 0 && eqb notify 0) (leb mode modeCount && leb notify lastNotify)) (sym e) ∙ rule mode
+  where
+    rule : (m : ℕ) → cond (eqb m 0) (eqb delta 0 && eqb notify 0) (leb m modeCount && leb notify lastNotify) ≡ (sameCells (m ∷ delta ∷ notify ∷ []) (setupCells (setupAt m delta notify)) && setupFits (setupAt m delta notify))
+    rule zero = sym (and-true _ ∙ ap (λ (b : Bool). eqb delta 0 && b) (and-true (eqb notify 0)))
+    rule (suc m) =
+        ap (λ (b : Bool). cond b (eqb delta 0 && eqb notify 0) (leb (suc m) modeCount && leb notify lastNotify)) (eqb·suc-zero m)
+        ∙ ap (λ (b : Bool). b && leb notify lastNotify) (leb·suc-suc m lastMode ∙ sym (and-true (leb m lastMode)) ∙ ap (λ (b : Bool). leb m lastMode && b) (sym (lt-ltb delta 4294967296 h)))
+        ∙ ap (λ (b : Bool). b && setupFits (setupAt (suc m) delta notify)) (sym (same-refl (suc m ∷ delta ∷ notify ∷ [])))
 
 -- ---- a format, whose figures and decimals are bytes
 
-pub format-fits : (n : ℕ) → n < 4294967296 → (eqb n 0 || (leb 1 (n % 256) && leb (n % 256) mostDatasets && leb (n / 256 % 256) lastKind)) ≡ formatFits (formatAt n)
-format-fits zero h = refl
-format-fits (suc n) h =
-    let front : Bool = leb 1 (suc n % 256) && leb (suc n % 256) mostDatasets && leb (suc n / 256 % 256) lastKind in
+-- one dataset less of so many
+one-less : (n : ℕ) → (leb (n % 256) 15 && leb (n / 256 % 256) lastKind) ≡ (between 1 mostDatasets (suc n % 256) && leb (suc n / 256 % 256) lastKind)
+one-less n =
+    ⊎-elim
+    (λ (k : leb (n % 256) 15 ≡ true).
+    let few : n % 256 ≤ 15 = leb-true (n % 256) 15 k in
+    let kind : n / 256 % 256 ≡ suc n / 256 % 256 = omega arith in
+    (λ i. k i && leb (kind i) lastKind)
+    ∙ sym (λ i. le-leb 1 (suc n % 256) (omega arith) i && le-leb (suc n % 256) mostDatasets (omega arith) i && leb (suc n / 256 % 256) lastKind))
+    (λ (k : leb (n % 256) 15 ≡ false).
+    let many : 15 < n % 256 = leb-false (n % 256) 15 k in
+    ap (λ (b : Bool). b && leb (n / 256 % 256) lastKind) k ∙ sym (ap (λ (b : Bool). b && leb (suc n / 256 % 256) lastKind) (outside many)))
+    (which (leb (n % 256) 15))
+  where
+    outside : 15 < n % 256 → between 1 mostDatasets (suc n % 256) ≡ false
+    outside many =
+        ⊎-elim
+        (λ (k : leb 1 (suc n % 256) ≡ true). let some-left : 1 ≤ suc n % 256 = leb-true 1 (suc n % 256) k in (λ i. k i && lt-leb (suc n % 256) mostDatasets (omega arith) i))
+        (λ (k : leb 1 (suc n % 256) ≡ false). ap (λ (b : Bool). b && leb (suc n % 256) mostDatasets) k)
+        (which (leb 1 (suc n % 256)))
+
+pub format-fits : (n less : ℕ) → less ≡ n - 1 → n < 4294967296 → (leb (less % 256) 15 && leb (less / 256 % 256) lastKind) ≡ formatFits (formatAt n)
+format-fits zero less e h = ap (λ (m : ℕ). leb (m % 256) 15 && leb (m / 256 % 256) lastKind) e
+format-fits (suc n) less e h =
+    let is : less ≡ n = omega arith in
+    let front : Bool = between 1 mostDatasets (suc n % 256) && leb (suc n / 256 % 256) lastKind in
     let figures : suc n / 256 / 256 % 256 < 256 = omega arith in
     let decimals : suc n / 256 / 256 / 256 < 256 = omega arith in
-    ap (λ (b : Bool). b || front) (eqb·suc-zero n)
+    ap (λ (m : ℕ). leb (m % 256) 15 && leb (m / 256 % 256) lastKind) is
+    ∙ one-less n
     ∙ sym ((λ i. front && lt-ltb (suc n / 256 / 256 % 256) 256 figures i && lt-ltb (suc n / 256 / 256 / 256) 256 decimals i) ∙ and-true (front && true) ∙ and-true front)
 
 -- ---- the formats of the modes below a number
@@ -80,3 +112,34 @@ experiment-by place a =
     let experiment : ℕ = cellAt place experimentIndex in
     ap (λ (b : Bool). cond b (eqb experiment 0) (ltb experiment experimentCount)) (sym a)
     ∙ experiment-rule (cellAt place askedIndex) (cellAt place (askedIndex + 1)) (cellAt place (askedIndex + 2)) experiment
+
+-- ---- the settings, test by test
+
+pub settings-sound : (place : List ℕ) → (formatsInFit place && soundSetup place answeredIndex && soundSetup place askedIndex && stateInFits place && experimentInFits place) ≡ soundSettings place
+unfolding soundSetup soundSettings formatsInFit stateInFits experimentInFits
+settings-sound place =
+    grouped
+    (exactSetup place askedIndex)
+    (setupFits (setupFrom place askedIndex))
+    (exactSetup place answeredIndex)
+    (setupFits (setupFrom place answeredIndex))
+    (formatsFit modeCount (settingsAt place .formats))
+    (stateFits (setupFrom place askedIndex) (setupFrom place answeredIndex) (cellAt place stateIndex))
+    (experimentFits (setupFrom place askedIndex) (cellAt place experimentIndex))
+  where
+    front : (a fa b fb f : Bool) → (f && (b && fb) && (a && fa)) ≡ (a && b && (f && fb && fa))
+    front true fa true fb true = refl
+    front true fa true fb false = refl
+    front true fa false fb true = refl
+    front true fa false fb false = refl
+    front false fa true true true = refl
+    front false fa true false true = refl
+    front false fa true fb false = refl
+    front false fa false fb true = refl
+    front false fa false fb false = refl
+
+    grouped : (a fa b fb f s e : Bool) → (f && (b && fb) && (a && fa) && s && e) ≡ (a && b && (f && fb && fa && s && e))
+    grouped a fa b fb f s e =
+        ap (λ (t : Bool). t && s && e) (front a fa b fb f)
+        ∙ ap (λ (t : Bool). t && e) (and-assoc (a && b) (f && fb && fa) s)
+        ∙ and-assoc (a && b) (f && fb && fa && s) e

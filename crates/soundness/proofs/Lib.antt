@@ -4,5 +4,6 @@ pub mod FactsFit
 pub mod Loops
 pub mod Places
 pub mod Records
+pub mod Rows
 pub mod Sound
 pub mod WiringFits

@@ -1,9 +1,35 @@
--- A loop over tests that stops at the first that fails: what all of them say, by the next one and those after it.
+-- Tests after one another: what all of them say, by the next one and those after it.
 use mathlib.Core.Path.{_≡_, sym, _∙_, ap}
-use mathlib.Core.Bool.{Bool, true, false, _&&_}
+use mathlib.Core.Bool.{Bool, true, false, _&&_, and-true, and-assoc}
+
+-- ---- a loop that stops at the first that fails
 
 pub stops : (later : Bool) {all next : Bool} → all ≡ (next && later) → next ≡ false → false ≡ all
 stops later e k = sym (e ∙ ap (λ (b : Bool). b && later) k)
 
 pub goes-on : {all next later : Bool} → all ≡ (next && later) → next ≡ true → all ≡ later
 goes-on {later = later} e k = e ∙ ap (λ (b : Bool). b && later) k
+
+-- ---- a loop that goes on to the end
+
+pub joins : (so-far next later : Bool) {all left : Bool} → all ≡ (so-far && left) → left ≡ (next && later) → all ≡ (so-far && next && later)
+joins so-far next later e k = e ∙ ap (λ (b : Bool). so-far && b) k ∙ sym (and-assoc so-far next later)
+
+pub joined : (so-far : Bool) {all left : Bool} → all ≡ (so-far && left) → left ≡ true → so-far ≡ all
+joined so-far e k = sym (e ∙ ap (λ (b : Bool). so-far && b) k ∙ and-true so-far)
+
+-- ---- two tests, the second only where the first passes
+
+pub passes : {a b x y r : Bool} → x ≡ a → x ≡ true → y ≡ b → r ≡ y → r ≡ (a && b)
+passes {b = b} e k f g = g ∙ f ∙ sym (ap (λ (t : Bool). t && b) (sym e ∙ k))
+
+pub fails : {a x r : Bool} (b : Bool) → x ≡ a → x ≡ false → r ≡ x → r ≡ (a && b)
+fails b e k g = g ∙ k ∙ sym (ap (λ (t : Bool). t && b) (sym e ∙ k))
+
+-- and the second of them is two
+
+pub both-pass : {a b c y z : Bool} → a ≡ true → y ≡ b → z ≡ c → (y && z) ≡ (a && b && c)
+both-pass {b = b} {c = c} k e f = (λ i. e i && f i) ∙ sym (ap (λ (t : Bool). t && b && c) k)
+
+pub neither : {a : Bool} (b c : Bool) → a ≡ false → a ≡ (a && b && c)
+neither b c k = k ∙ sym (ap (λ (t : Bool). t && b && c) k)

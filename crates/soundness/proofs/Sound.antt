@@ -1,27 +1,27 @@
 -- Soundness of cells, place by place.
-use Prim.Native.Nat.{ℕ, _+_, _*_, _-_, _≤_, _<_}
+use Prim.Native.Nat.{ℕ, zero, suc, _+_, _*_, _-_, _≤_, _<_}
 use native.Mathlib.Omega.{arith}
 use mathlib.Core.Path.{_≡_, refl, sym, _∙_, ap}
-use mathlib.Core.Bool.{Bool, true, false, cond, not, _&&_, and-true, and-assoc}
+use mathlib.Core.Bool.{Bool, true, false, cond, not, _&&_, and-true, and-false, and-assoc}
 use mathlib.Core.List.{List, _∷_, _++_}
 use mathlib.Core.Option.{Option, none, some}
 use mathlib.Core.Logic.{⊎-elim}
 use borrow.Author.Tests.{eq-eqb, ne-eqb}
-use lib.Dec.{eqb}
+use lib.Dec.{eqb, ltb}
 use lib.ListN.{length, drop, take-append-drop, drop-of-length-le}
 use lib.Seq.{drop-drop}
 use Rattle.protocol.proofs.Tests.{which}
-use Rattle.rules.specs.Layout.{places, stride, tableSize, wiringIndex, portIndex}
-use Rattle.rules.specs.Facts.{View, known}
+use Rattle.rules.specs.Layout.{places, stride, tableSize, portCount, wiringIndex, portIndex, deviceIndex, askedIndex, answeredIndex}
+use Rattle.rules.specs.Facts.{Facts, View, known}
 use Rattle.rules.specs.Table.{Record, Table, viewOfTable}
-use Rattle.rules.specs.WellFormed.{recordFits, placesFit, wellFormed}
-use Rattle.rules.specs.Cells.{placeCells, cellsOf, cellAt, recordAt, placeAt, tableAt, sameCells, sound}
+use Rattle.rules.specs.WellFormed.{settingsFit, wiringFits, recordFits, placesFit, wellFormed}
+use Rattle.rules.specs.Cells.{placeCells, cellsOf, cellAt, settingsAt, recordAt, placeAt, tableAt, sameCells, sound}
 use Rattle.rules.proofs.CellsRecord.{place-length}
 use Rattle.rules.proofs.CellsSound.{sound-length}
 use Rattle.soundness.specs.Place.{placeAtIndex, fromPlace}
-use Rattle.soundness.specs.Soundness.{emptyPlace, exactRecord, placeFits, soundPlace}
+use Rattle.soundness.specs.Soundness.{wiringIn, emptyPlace, exactSetup, exactWiring, exactRecord, soundSettings, soundRecord, placeFits, soundPlace}
 use Rattle.soundness.proofs.Places.{place-size, next}
-use Rattle.soundness.proofs.ExactCells.{same-append}
+use Rattle.soundness.proofs.ExactCells.{same-append, record-exact}
 
 -- ---- the places from an index on
 
@@ -66,6 +66,18 @@ module _ (cells : List ℕ) (i : ℕ) (size : length cells ≡ tableSize) where
       ∙ (λ j. same-append place (placeCells p) rest (cellsOf later) (place-size cells i size h ∙ sym (place-length p)) j && place-then view p later j)
       ∙ crossed (sameCells place (placeCells p)) (sameCells rest (cellsOf later)) (placeFits view later p) (placesFit view later)
 
+-- one place that is not sound is enough
+
+module _ (cells : List ℕ) (size : length cells ≡ tableSize) where
+  back : (i : ℕ) → i ≤ places → soundFrom cells i ≡ false → soundFrom cells 0 ≡ false
+  back zero h e = e
+  back (suc i) h e =
+      let one : i + 1 ≡ suc i = omega arith in
+      back i (omega arith) (sound-next cells i size (omega arith) ∙ ap (λ (k : ℕ). soundPlace cells i && soundFrom cells k) one ∙ ap (λ (b : Bool). soundPlace cells i && b) e ∙ and-false (soundPlace cells i))
+
+  pub unsound : (i : ℕ) → i < places → soundPlace cells i ≡ false → sound cells ≡ false
+  unsound i h e = sound-start cells ∙ back i (omega arith) (sound-next cells i size h ∙ ap (λ (b : Bool). b && soundFrom cells (i + 1)) e)
+
 pub wrong-size : (cells : List ℕ) → (length cells ≡ tableSize → ⊥) → false ≡ sound cells
 wrong-size cells n = ⊎-elim (λ (k : sound cells ≡ true). absurd (n (sound-length cells k))) (λ (k : sound cells ≡ false). sym k) (which (sound cells))
 
@@ -90,3 +102,37 @@ module _ (cells place : List ℕ) (i : ℕ) (is : place ≡ placeAtIndex cells i
   record-sound n =
       and-assoc (exactRecord place) (recordFits (viewOfTable (tableAt cells)) (recordAt place)) (not (known (viewOfTable (fromPlace cells (i + 1)) (cellAt place portIndex))))
       ∙ by-place false (ne-eqb (cellAt place wiringIndex) 0 n)
+
+  -- where its port is in no later place
+  pub record-alone : (cellAt place wiringIndex ≡ 0 → ⊥) → viewOfTable (fromPlace cells (i + 1)) (cellAt place portIndex) ≡ none → soundRecord (viewOfTable (tableAt cells)) place ≡ soundPlace cells i
+  unfolding soundRecord
+  record-alone n alone =
+      sym (and-true (exactRecord place && recordFits (viewOfTable (tableAt cells)) (recordAt place)))
+      ∙ ap (λ (f : Option Facts). exactRecord place && recordFits (viewOfTable (tableAt cells)) (recordAt place) && not (known f)) (sym alone)
+      ∙ record-sound n
+
+-- ---- a record, test by test
+
+pub record-tests : (view : View) (place : List ℕ) → length place ≡ stride → (exactWiring place && (ltb (cellAt place portIndex) portCount && ltb (cellAt place deviceIndex) 65536) && soundSettings place && wiringFits view (cellAt place portIndex) (wiringIn place)) ≡ soundRecord view place
+unfolding soundSettings soundRecord recordAt
+record-tests view place size =
+    grouped
+    (exactWiring place)
+    (exactSetup place askedIndex)
+    (exactSetup place answeredIndex)
+    (ltb (cellAt place portIndex) portCount)
+    (ltb (cellAt place deviceIndex) 65536)
+    (settingsFit (settingsAt place))
+    (wiringFits view (cellAt place portIndex) (wiringIn place))
+    ∙ ap (λ (b : Bool). b && recordFits view (recordAt place)) (record-exact place size)
+  where
+    front : (both p d s f : Bool) → (p && d && (both && s) && f) ≡ (both && (p && (d && s) && f))
+    front true true d s f = refl
+    front true false d s f = refl
+    front false true true s f = refl
+    front false true false s f = refl
+    front false false d s f = refl
+
+    grouped : (w a b p d s f : Bool) → (w && (p && d) && (a && b && s) && f) ≡ (w && a && b && (p && (d && s) && f))
+    grouped true a b p d s f = front (a && b) p d s f
+    grouped false a b p d s f = refl

@@ -8,7 +8,7 @@ use Rattle.rules.specs.declared.Wiring.{Wiring}
 use Rattle.rules.specs.Layout.{modeCount, wiringIndex, firstIndex, secondIndex, stateIndex, askedIndex, experimentIndex, answeredIndex}
 use Rattle.rules.specs.Facts.{View, known}
 use Rattle.rules.specs.Table.{Record, Table, viewOfTable}
-use Rattle.rules.specs.WellFormed.{formatsFit, stateFits, experimentFits, settingsFit, recordFits}
+use Rattle.rules.specs.WellFormed.{setupFits, formatsFit, stateFits, experimentFits, settingsFit, recordFits}
 use Rattle.rules.specs.Cells.{setupCells, wiringCell, firstPartner, secondPartner, recordCells, placeCells, cellAt, setupFrom, wiringAt, settingsAt, recordAt, placeAt, tableAt, sameCells}
 use Rattle.soundness.specs.Place.{placeAtIndex, fromPlace}
 
@@ -51,8 +51,16 @@ stateInFits place = stateFits (setupFrom place askedIndex) (setupFrom place answ
 unfoldable pub experimentInFits : List ℕ → Bool
 experimentInFits place = experimentFits (setupFrom place askedIndex) (cellAt place experimentIndex)
 
-unfoldable pub settingsInFit : List ℕ → Bool
-settingsInFit place = settingsFit (settingsAt place)
+-- ---- exact, and within the lists
+
+unfoldable pub soundSetup : List ℕ → ℕ → Bool
+soundSetup place at = exactSetup place at && setupFits (setupFrom place at)
+
+unfoldable pub soundSettings : List ℕ → Bool
+soundSettings place = exactSetup place askedIndex && exactSetup place answeredIndex && settingsFit (settingsAt place)
+
+unfoldable pub soundRecord : View → List ℕ → Bool
+soundRecord view place = exactRecord place && recordFits view (recordAt place)
 
 -- ---- among the places of a table
 

@@ -1,11 +1,8 @@
-// Whether the cells of a place are those of what they stand for.
+// Whether the cells of a free place, and those of a wiring, are those of what they stand for.
 ghost use mathlib.Core.Path.{_≡_};
-ghost use Prim.Native.Nat.{_+_, _<_};
 ghost use lib.ListN.{length};
 ghost use Rattle.rules.specs.Layout.{stride};
-ghost use Rattle.soundness.specs.Soundness.{emptyPlace, exactSetup, exactWiring, exactRecord};
-use rules::layout::ANSWERED;
-use rules::layout::ASKED;
+ghost use Rattle.soundness.specs.Soundness.{emptyPlace, exactWiring};
 use rules::layout::FIRST;
 use rules::layout::JOINED;
 use rules::layout::SECOND;
@@ -19,26 +16,17 @@ pub(crate) fn is_empty(place: &[u32]) -> bool
     requires { ⌜ length (now place) ≡ stride ⌝ }
     ensures { λ r. ⌜ r ≡ emptyPlace (now (place .entry)) ⌝ }
 {
+    let mut empty = true;
     let mut k = 0;
     while k < STRIDE {
-        if place[k] != 0 {
-            return false;
-        }
+        empty = empty & (place[k] == 0);
         k += 1;
     }
-    true
-}
-
-// Whether a setup without a mode has no delta and no notify.
-fn exact_setup(place: &[u32], at: usize) -> bool
-    requires { ⌜ (length (now place) ≡ stride) × (at + 2 < stride) ⌝ }
-    ensures { λ r. ⌜ r ≡ exactSetup (now (place .entry)) at ⌝ }
-{
-    (place[at] != 0) | ((place[at + 1] == 0) & (place[at + 2] == 0))
+    empty
 }
 
 // Whether the wiring is one of three, and the partners that it does not have are 0.
-fn exact_wiring(place: &[u32]) -> bool
+pub(crate) fn exact_wiring(place: &[u32]) -> bool
     requires { ⌜ length (now place) ≡ stride ⌝ }
     ensures { λ r. ⌜ r ≡ exactWiring (now (place .entry)) ⌝ }
 {
@@ -48,12 +36,4 @@ fn exact_wiring(place: &[u32]) -> bool
         VIRTUAL => true,
         _ => false,
     }
-}
-
-// Whether the cells of a place are those of the record that they stand for.
-pub(crate) fn exact_record(place: &[u32]) -> bool
-    requires { ⌜ length (now place) ≡ stride ⌝ }
-    ensures { λ r. ⌜ r ≡ exactRecord (now (place .entry)) ⌝ }
-{
-    exact_wiring(place) & exact_setup(place, ASKED) & exact_setup(place, ANSWERED)
 }

@@ -1,9 +1,9 @@
 // The place of a port's record, and a free place.
 ghost use mathlib.Core.Path.{_≡_};
-ghost use Prim.Native.Nat.{_+_, _≤_, _<_};
+ghost use Prim.Native.Nat.{_≤_, _<_};
 ghost use lib.ListN.{length};
 ghost use Rattle.rules.specs.Layout.{places, stride, tableSize};
-ghost use Rattle.soundness.specs.Place.{placeAtIndex, fromPlace, portAt, placeOf, findPlace, freePlace};
+ghost use Rattle.soundness.specs.Place.{placeAtIndex, portAt, findPlace, freePlace};
 use rules::layout::FREE;
 use rules::layout::PLACES;
 use rules::layout::PORT;
@@ -32,21 +32,6 @@ fn is_at(table: &[u32], i: usize, port: u32) -> bool
     table[STRIDE * i + PORT] == port
 }
 
-// The first place from an index on that has a port's record; the number of places where none has.
-pub(crate) fn find_from(table: &[u32], from: usize, port: u32) -> usize
-    requires { ⌜ (length (now table) ≡ tableSize) × (from ≤ places) ⌝ }
-    ensures { λ r. ⌜ (r ≤ places) × (r ≡ from + placeOf (fromPlace (now (table .entry)) from) port) ⌝ }
-{
-    let mut i = from;
-    while i < PLACES {
-        if is_at(table, i, port) {
-            return i;
-        }
-        i += 1;
-    }
-    PLACES
-}
-
 // The place of a port's record; the number of places where the port is not present, or the cells are no table's.
 pub fn find(table: &[u32], port: u32) -> usize
     ensures { λ r. ⌜ (r ≤ places) × (r ≡ findPlace (now (table .entry)) port) ⌝ }
@@ -54,7 +39,14 @@ pub fn find(table: &[u32], port: u32) -> usize
     if table.len() != TABLE_SIZE {
         return PLACES;
     }
-    find_from(table, 0, port)
+    let mut i = 0;
+    while i < PLACES {
+        if is_at(table, i, port) {
+            return i;
+        }
+        i += 1;
+    }
+    PLACES
 }
 
 // The lowest free place; the number of places where none is, or the cells are no table's.

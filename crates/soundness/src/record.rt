@@ -1,15 +1,13 @@
-// Whether a record is within its lists, and its state and its experiment number go by their rules, but for its port and its
-// wiring.
+// Whether a record's settings are within their lists, and the state and the experiment number go by their rules.
 ghost use mathlib.Core.Path.{_≡_};
-ghost use Prim.Native.Nat.{_+_, _<_};
+ghost use Prim.Native.Nat.{_+_, _-_, _<_};
 ghost use lib.ListN.{length};
 ghost use Rattle.rules.specs.Layout.{stride};
-ghost use Rattle.rules.specs.WellFormed.{setupFits, formatFits, factsFit};
-ghost use Rattle.rules.specs.Cells.{formatAt, setupFrom, recordAt};
-ghost use Rattle.soundness.specs.Soundness.{formatsInFit, sameSetups, stateInFits, experimentInFits, settingsInFit};
+ghost use Rattle.rules.specs.WellFormed.{formatFits};
+ghost use Rattle.rules.specs.Cells.{formatAt};
+ghost use Rattle.soundness.specs.Soundness.{formatsInFit, sameSetups, stateInFits, experimentInFits, soundSetup, soundSettings};
 use rules::layout::ANSWERED;
 use rules::layout::ASKED;
-use rules::layout::DEVICE;
 use rules::layout::EXPERIMENT;
 use rules::layout::EXPERIMENT_COUNT;
 use rules::layout::FORMATS;
@@ -19,19 +17,34 @@ use rules::layout::STATE;
 // The first cell of a setup of the last mode: it is the mode plus one.
 const LAST_MODE: u32 = MODE_COUNT as u32;
 
-// Whether a setup is within its lists.
+// Whether a setup's cells are those of what they stand for, and within its lists.
 fn setup_fits(place: &[u32], at: usize) -> bool
     requires { ⌜ (length (now place) ≡ stride) × (at + 2 < stride) ⌝ }
-    ensures { λ r. ⌜ r ≡ setupFits (setupFrom (now (place .entry)) at) ⌝ }
+    ensures { λ r. ⌜ r ≡ soundSetup (now (place .entry)) at ⌝ }
 {
-    (place[at] == 0) | ((place[at] <= LAST_MODE) & (place[at + 2] <= 1))
+    if place[at] == 0 {
+        return (place[at + 1] == 0) & (place[at + 2] == 0);
+    }
+    (place[at] <= LAST_MODE) & (place[at + 2] <= 1)
 }
 
-// Whether a format's cell is within its lists.
+// One less; 0 for 0.
+fn one_less(n: u32) -> u32
+    ensures { λ r. ⌜ r ≡ n - 1 ⌝ }
+{
+    if n == 0 {
+        return 0;
+    }
+    n - 1
+}
+
+// Whether a format's cell is within its lists. One less is tested: then 1 to 16 datasets are 0 to 15, none are 255, and no
+// format at all, 0, stays 0 and passes.
 fn format_fits(format: u32) -> bool
     ensures { λ r. ⌜ r ≡ formatFits (formatAt format) ⌝ }
 {
-    (format == 0) | ((1 <= format % 256) & (format % 256 <= 16) & (format / 256 % 256 <= 3))
+    let less = one_less(format);
+    (less % 256 <= 15) & (less / 256 % 256 <= 3)
 }
 
 // Whether the formats of all modes are within their lists.
@@ -39,14 +52,13 @@ fn formats_fit(place: &[u32]) -> bool
     requires { ⌜ length (now place) ≡ stride ⌝ }
     ensures { λ r. ⌜ r ≡ formatsInFit (now (place .entry)) ⌝ }
 {
+    let mut fit = true;
     let mut mode = MODE_COUNT;
     while 0 < mode {
         mode -= 1;
-        if !format_fits(place[FORMATS + mode]) {
-            return false;
-        }
+        fit = fit & format_fits(place[FORMATS + mode]);
     }
-    true
+    fit
 }
 
 // Whether what was asked and what was answered are equal.
@@ -89,22 +101,15 @@ fn experiment_fits(place: &[u32]) -> bool
     experiment < EXPERIMENT_COUNT
 }
 
-// Whether what a port was told is within its lists, and the state and the experiment number go by their rules.
-fn settings_fit(place: &[u32]) -> bool
+// Whether what a port was told is within its lists, and the state and the experiment number go by their rules; and the
+// cells of the setups are those of what they stand for.
+pub(crate) fn settings_fit(place: &[u32]) -> bool
     requires { ⌜ length (now place) ≡ stride ⌝ }
-    ensures { λ r. ⌜ r ≡ settingsInFit (now (place .entry)) ⌝ }
+    ensures { λ r. ⌜ r ≡ soundSettings (now (place .entry)) ⌝ }
 {
     formats_fit(place)
-        & setup_fits(place, ANSWERED)
-        & setup_fits(place, ASKED)
-        & state_fits(place)
-        & experiment_fits(place)
-}
-
-// The same, and the device.
-pub(crate) fn facts_fit(place: &[u32]) -> bool
-    requires { ⌜ length (now place) ≡ stride ⌝ }
-    ensures { λ r. ⌜ r ≡ factsFit (recordAt (now (place .entry)) .facts) ⌝ }
-{
-    (place[DEVICE] < 65536) & settings_fit(place)
+        && setup_fits(place, ANSWERED)
+        && setup_fits(place, ASKED)
+        && state_fits(place)
+        && experiment_fits(place)
 }
