@@ -1,2 +1,3 @@
 pub mod OpenPart
 pub mod Values
+pub mod LogBlocks

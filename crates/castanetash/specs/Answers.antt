@@ -13,6 +13,8 @@ use Rattle.rules.specs.Dataset.{Dataset}
 use Rattle.log.specs.Block.{blockRecords}
 use Rattle.log.specs.Cutting.{Run, printed}
 use Rattle.table.specs.BlockAnswer.{Progress, runOf, blockAnswer, blockCells}
+use Rattle.writer.specs.Writing as Writing
+use Rattle.writer.specs.Writing.{WriteAnswer}
 use Rattle.answers.specs.Call.{mapped, inRoom, callNumber, lentAfter}
 use Rattle.table_cells.specs.Rows.{datasetRow}
 
@@ -24,6 +26,12 @@ readingRow size count (Decode.accepted f vs) = accepted (acceptedRow f (openStar
 
 unfoldable pub readAnswer : Way → List ℕ → Answer (List ℕ)
 readAnswer way s = readingRow (length s) (length (openPart way s)) (decode way s)
+
+-- ---- writing: how many bytes
+
+abbrev pub writtenCount : WriteAnswer → Answer ℕ
+writtenCount (Writing.refused n place) = refused n place
+writtenCount (Writing.written count) = accepted count
 
 -- ---- all datasets of a message: a row each, and how many they are
 

@@ -6,12 +6,18 @@ use codec::open_part;
 use codec::read;
 use message_rows::message_row;
 use protocol::Reading;
+use protocol::Written;
+use row_messages::write_row;
 ghost use mathlib.Core.Path.{_≡_};
 ghost use Prim.Native.Nat.{_≤_};
+ghost use lib.ListN.{length};
 ghost use Rattle.protocol.specs.Answer.{answerOf};
-ghost use Rattle.answers.specs.Call.{rowAfter, rowNumber};
+ghost use Rattle.answers.specs.Call.{callNumber, rowAfter, rowNumber};
 ghost use Rattle.message_rows.specs.Row.{openStart, wayOf};
-ghost use Rattle.castanetash.specs.Answers.{readAnswer, readingRow};
+ghost use Rattle.row_messages.specs.RowWriting.{rowEncoded};
+ghost use Rattle.writer.specs.Writing.{answered, lentAfter, limited};
+ghost use Rattle.writer.specs.Writing as Writing;
+ghost use Rattle.castanetash.specs.Answers.{readAnswer, readingRow, writtenCount};
 
 // Where the last `count` of `size` bytes start; 0 where there are none.
 fn open_start(size: u64, count: u64) -> u64
@@ -47,4 +53,23 @@ pub extern "C" fn castanetash_read(message: &[u8], way: u8, row: &mut [u64]) -> 
     let reading = read(message, w);
     let open = open_part(message, w).len();
     put_reading(row, reading, message.len() as u64, open as u64)
+}
+
+// The answer of a writing as one number.
+fn number_of(written: Written) -> u64
+    ensures { λ r. ⌜ r ≡ callNumber (writtenCount (Writing.answerOf written)) ⌝ }
+{
+    match written {
+        Written::Length(n) => n as u64,
+        Written::Refused { number, place } => refusal(number, place),
+    }
+}
+
+// Writes the message of a row, as `castanetash_read` fills it, with its open bytes into the front of
+// `out`.
+#[no_mangle]
+pub extern "C" fn castanetash_write(row: &[u64], way: u8, open: &[u8], out: &mut [u8]) -> u64
+    ensures { λ r. ⌜ (r ≡ callNumber (writtenCount (answered (limited (length (now (out .entry))) (rowEncoded (wayOf way) (now (row .entry)) (now («open» .entry))))))) × (now (out .exit) ≡ lentAfter (limited (length (now (out .entry))) (rowEncoded (wayOf way) (now (row .entry)) (now («open» .entry)))) (now (out .entry))) ⌝ }
+{
+    number_of(write_row(row, way_of(way), open, out))
 }

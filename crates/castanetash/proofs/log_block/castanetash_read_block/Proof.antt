@@ -1,3 +1,9 @@
+use mathlib.Core.Path.{sym, subst}
+use lib.ListN.{length, take}
+use Rattle.table.specs.declared.block.Block.{Block}
+use Rattle.table.specs.BlockAnswer.{blockFits}
+use lib.Seq.{length-take-le}
+use Rattle.castanetash.proofs.LogBlocks.{few-called, refused-called, done-called}
 use borrow.Author.Needs.{needs}
 use Rattle.castanetash.proofs.log_block.castanetash_read_block.Statement.{statement}
 use Rattle.castanetash.proofs.log_block.castanetash_read_block.Tie as tie
@@ -9,7 +15,7 @@ same-length : tie.Need-same-length
 same-length c = search needs
 
 returns : tie.Need-returns
-returns c = ?
+returns c = let a = c .before .before .before .before .before .before .before .args in few-called (a .table .now) (a .totals .now) (a .log .now) (a .text .now) (c .before .before .if1 .taken) (c .few-totals .result) (c .few-totals .ensures)
 
 text-room-requires : tie.Need-text-room-requires
 text-room-requires c κs = search needs
@@ -24,7 +30,7 @@ slice-relend-prefix-read-block : tie.Need-slice-relend-prefix-read-block
 slice-relend-prefix-read-block c = search needs
 
 slice-aggregate-read-block : tie.Need-slice-aggregate-read-block
-slice-aggregate-read-block c = ?
+slice-aggregate-read-block c = sym (length-take-le _ (c .before .before .before .before .before .before .before .before .before .before .args .text .now) (c .before .before .before .before .text-room .ensures .1))
 
 read-block-requires : tie.Need-read-block-requires
 read-block-requires c κs = search needs
@@ -51,7 +57,12 @@ same-length-3 : tie.Need-same-length-3
 same-length-3 c = search needs
 
 returns-2 : tie.Need-returns-2
-returns-2 c = ?
+returns-2 c =
+    let a = c .before .before .before .before .before .before .before .before .before .before .before .before .before .before .before .before .before .before .before .args in
+    let r = c .before .before .before .before .before .before .before .before .read-block in
+    let q = c .before .before .before .before .before .before .before .before .before .before .before .before .before .text-room in
+    let b = c .before .before .number in
+    refused-called (a .table .now) (a .totals .now) (a .log .now) (a .text .now) (q .result) (q .ensures .0) (q .ensures .1) (r .result) _ _ (r .ensures .0) (r .ensures .1) (r .ensures .2) (b .given .0 .0) (b .given .0 .1 .0) (b .given .1) _ (c .refusal .ensures)
 
 same-length-4 : tie.Need-same-length-4
 same-length-4 c = search needs
@@ -63,7 +74,14 @@ same-length-6 : tie.Need-same-length-6
 same-length-6 c = search needs
 
 returns-3 : tie.Need-returns-3
-returns-3 c = ?
+returns-3 c =
+    let a = c .before .before .before .before .before .before .before .before .before .before .before .before .before .before .before .before .before .before .args in
+    let r = c .before .before .before .before .before .before .before .read-block in
+    let q = c .before .before .before .before .before .before .before .before .before .before .before .before .text-room in
+    let b = c .before .written in
+    let f = b .given .0 in
+    let fits = subst (λ (x : Block). blockFits x (length (a .log .now)) (length (take (q .result) (a .text .now)))) (b .given .1) (r .ensures .3) in
+    done-called (a .table .now) (a .totals .now) (a .log .now) (a .text .now) (q .result) (q .ensures .0) (q .ensures .1) (r .result) _ _ (r .ensures .0) (r .ensures .1) (r .ensures .2) (f .0) (f .1 .0) (f .1 .1 .0) (f .1 .1 .1 .0) (b .given .1) (fits .1) (c .before .before .before .before .before .before .before .before .before .before .before .before .before .if1 .left)
 
 pub castanetash-read-block-spec : {M : Type 1} → statement M
 castanetash-read-block-spec =
