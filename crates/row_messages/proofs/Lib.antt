@@ -1,6 +1,7 @@
 pub mod Answering
 pub mod Built
 pub mod Chosen
+pub mod Examples
 pub mod Narrowing
 pub mod OwnRow
 pub mod RowTrip

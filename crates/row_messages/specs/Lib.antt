@@ -1,2 +1,3 @@
+pub mod Examples
 pub mod RowTrip
 pub mod RowWriting
