@@ -7,3 +7,4 @@ pub mod OwnRow
 pub mod RowTrip
 pub mod Same
 pub mod Settled
+pub mod WideNumbers
