@@ -11,7 +11,8 @@ use Rattle.protocol.specs.declared.Way.{Way}
 use Rattle.protocol.specs.declared.Written.{Written}
 use Rattle.protocol.specs.declared.Written.the-variants.{Length, Refused}
 use Rattle.message_rows.specs.Row.{rowSize}
-use Rattle.writer.specs.Writing.{answerOf, answered, limited, lentAfter}
+use Rattle.writer.specs.Writing.{WriteAnswer, answerOf, answered, limited, lentAfter}
+use Rattle.writer.specs.Writing as Writing
 use Rattle.row_messages.specs.RowWriting.{noMessage, unlessOwn, formEncoded, rowEncoded}
 
 -- what a call that writes has to give, of what the definition says
@@ -27,9 +28,14 @@ unfolding limited
 answers-refused x r n place before e a =
     (a ∙ sym (ap (λ (y : Encoded). answered (limited (length before) y)) e), sym (ap (λ (y : Encoded). lentAfter (limited (length before) y) before) e))
 
+-- a refusal, by its answer
+abbrev refusalOf : WriteAnswer → Encoded
+refusalOf (Writing.refused n place) = refused n place
+refusalOf (Writing.written n) = noMessage
+
 -- numbers that are not the message's own: its refusal
 not-own-refused : (x : Encoded) (n place : ℕ) (j : Written) → answerOf j ≡ answered x → j ≡ Refused n place → unlessOwn false x ≡ refused n place
-not-own-refused (refused k at) n place j e is = cc
+not-own-refused (refused k at) n place j e is = sym (ap refusalOf e) ∙ ap (λ (w : Written). refusalOf (answerOf w)) is
 not-own-refused (encoded bytes) n place j e is = let z : _≡_ {A = ℕ} 0 1 = cc in absurd (omega arith)
 
 -- or none

@@ -1,8 +1,10 @@
 pub mod Answering
 pub mod Built
 pub mod Chosen
+pub mod Examples
 pub mod Narrowing
 pub mod OwnRow
 pub mod RowTrip
 pub mod Same
 pub mod Settled
+pub mod WideNumbers

@@ -3,7 +3,7 @@ use Prim.Native.Nat.{ℕ, zero, suc, _+_, _*_, _-_, _/_, _%_, _^_, _≤_, _<_}
 use native.Mathlib.Nat.{add-zero, mod-eq-of-lt, mul-add-mod-self-right}
 use native.Mathlib.Omega.{arith}
 use mathlib.Core.Path.{_≡_, refl, sym, _∙_, ap}
-use mathlib.Core.Bool.{Bool, true, false, not, _&&_}
+use mathlib.Core.Bool.{Bool, true, false, not}
 use mathlib.Core.List.{List, [], _∷_, _++_}
 use mathlib.Core.Logic.{⊎-elim}
 use borrow.Author.Tests.{lt-ltb, ltb-true}
@@ -17,9 +17,9 @@ use lib.Pow.{pow-add}
 use lib.Seq.{getD-drop, drop-drop}
 use Rattle.protocol.specs.Number.{Bytes, littleEndian, twosComplement, isFinite}
 use Rattle.protocol.specs.Rule.{any}
-use Rattle.protocol.specs.Field.{Field, number, highFirst, signed, float, fixed, Value, natural, integer, real, width}
+use Rattle.protocol.specs.Field.{Field, number, highFirst, signed, float, fixed, Value, natural, integer, real}
 use Rattle.protocol.specs.Form.{word, wordsFrom, upFrom}
-use Rattle.protocol.specs.Encode.{inRange, ofInteger, holds, good, taken, wrote, writeFields}
+use Rattle.protocol.specs.Encode.{inRange, ofInteger, holds, wrote, writeFields}
 use Rattle.protocol.proofs.Tests.{which, and-left, and-right}
 use Rattle.protocol.proofs.Bytes.{little-lt}
 use Rattle.protocol.proofs.Signed.{range, halves, integer-lt, integer-forth}
@@ -27,7 +27,7 @@ use Rattle.protocol.proofs.Floats.{finite-bits}
 use Rattle.protocol.proofs.FieldTrip.{Taken, taken-good, step-after, never}
 use Rattle.protocol.proofs.FieldsTrip.{one-step}
 use Rattle.message_rows.specs.Row.{numberOf}
-use Rattle.row_messages.specs.RowWriting.{fitted, settledBits, narrow, past, narrowAll}
+use Rattle.row_messages.specs.RowWriting.{fitted, settledBits, narrow, narrowAll}
 
 -- ---- one value
 

@@ -1,7 +1,7 @@
 -- The row that reading fills is the message, and writing it gives back the bytes.
 use Prim.Native.Nat.{ℕ, zero, suc, _+_, _*_, _-_, _/_, _%_, _≤_, _<_}
 use native.Mathlib.Omega.{arith}
-use mathlib.Core.Path.{_≡_, refl, sym, _∙_, ap}
+use mathlib.Core.Path.{_≡_, refl, _∙_, ap}
 use mathlib.Core.Bool.{Bool, true, _&&_}
 use mathlib.Core.List.{List, [], _∷_, _++_, map}
 use borrow.Author.Tests.{eq-eqb, eqb-true, leb-true}
@@ -17,7 +17,7 @@ use Rattle.protocol.specs.Encode.{encoded, encodeValues, encode, writeFields, w
 use Rattle.protocol.specs.declared.Message.{Message}
 use Rattle.protocol.specs.declared.Way.{Way}
 use Rattle.protocol.proofs.Answers.{message-back}
-use Rattle.protocol.proofs.Tests.{and-left, and-right}
+use Rattle.protocol.proofs.Tests.{and-left}
 use Rattle.protocol.proofs.Bytes.{part}
 use Rattle.protocol.proofs.FieldsTrip.{fields-written}
 use Rattle.protocol.proofs.FormTrip.{proper, was-read}
@@ -28,7 +28,7 @@ use Rattle.row_messages.proofs.Answering.{of-form}
 use Rattle.row_messages.proofs.Narrowing.{AllSlim, Numbers, fields-back, list-back}
 use Rattle.row_messages.proofs.OwnRow.{padded-length, accepted-size, few-values}
 use Rattle.row_messages.specs.RowTrip.{RowIsMessage, ReadRowThenWritten}
-use Rattle.row_messages.specs.RowWriting.{wordFields, rowValues, messageIn, sameTo, pastCount, among, ownNumbers, unlessOwn, formEncoded, rowEncoded, narrowAll}
+use Rattle.row_messages.specs.RowWriting.{wordFields, rowValues, messageIn, sameTo, among, ownNumbers, unlessOwn, formEncoded, rowEncoded, narrowAll}
 
 -- ---- facts of the forms
 

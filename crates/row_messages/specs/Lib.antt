@@ -1,2 +1,4 @@
+pub mod Examples
 pub mod RowTrip
 pub mod RowWriting
+pub mod WideNumbers

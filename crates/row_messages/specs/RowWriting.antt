@@ -17,9 +17,13 @@ use Rattle.protocol.specs.declared.Way.{Way}
 use Rattle.selectors.specs.Choice.{formAt}
 use Rattle.message_rows.specs.Row.{rowSize, beforeValues, valueNumbers}
 
--- a number in so many bytes; a wider one stands as a number that no list of document 01 has, FE in one byte
+-- what stands for a number that is wider than its field, FE in one byte: no list of document 01 has it (specs/WideNumbers.antt)
+abbrev pub inPlaceOfWider : ℕ → ℕ
+inPlaceOfWider width = 256 ^ width - 2
+
+-- a number in so many bytes
 unfoldable pub fitted : ℕ → ℕ → ℕ
-fitted width n = cond (ltb n (256 ^ width)) n (256 ^ width - 2)
+fitted width n = cond (ltb n (256 ^ width)) n (inPlaceOfWider width)
 
 -- the bits of an f32: one infinity stands for every infinity and NaN, all of which writing refuses alike, and 0 for a wider number
 unfoldable pub settledBits : ℕ → ℕ

@@ -92,6 +92,6 @@ choiceOf Form.inputFormat way a b c = upOnly way true 0
 choiceOf Form.virtualDisconnect way a b c = downOnly way (eqb a 0) 3
 choiceOf Form.virtualConnect way a b c = downOnly way (eqb a 1) 3
 
--- the form of a number; a choice does not depend on its argument
+-- the form of a number, with any argument, since no choice looks at it; a number that is no form's counts as 17
 unfoldable pub formAt : ℕ → Form
 formAt n = getD (formsBy 0) n Form.lockStatusRequest

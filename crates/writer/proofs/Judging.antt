@@ -1,15 +1,14 @@
 -- What follows from a judgement that is known.
-use Prim.Native.Nat.{ℕ, _+_, _≤_}
+use Prim.Native.Nat.{ℕ, _+_}
 use mathlib.Core.Path.{_≡_, sym, _∙_, ap, subst}
 use mathlib.Core.List.{List}
 use lib.ListN.{length}
 use Rattle.protocol.proofs.RoundTrip.{written-short}
 use Rattle.protocol.specs.Answer.{formOf, valuesOf}
-use Rattle.protocol.specs.Encode.{encode, encodeForm, refused}
+use Rattle.protocol.specs.Encode.{encode, encodeForm}
 use Rattle.protocol.specs.declared.Message.{Message}
 use Rattle.protocol.specs.declared.Way.{Way}
 use Rattle.selectors.specs.declared.Choice.{Choice}
-use Rattle.selectors.specs.declared.Choice.the-variants.{Chosen, Refused}
 use Rattle.slots.specs.Slot.{Slotted}
 use Rattle.slots.specs.declared.Slot.{Slot}
 use Rattle.writer.proofs.Encoding.{all-inside}

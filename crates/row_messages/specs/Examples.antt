@@ -1,0 +1,71 @@
+-- Rows and what writing gives of them, as one table: document 01's refusal where it has one, and 255 for what is left.
+use Prim.Native.Nat.{ℕ}
+use mathlib.Core.Path.{_≡_}
+use mathlib.Core.List.{List, [], _∷_, map}
+use lib.ListN.{length}
+use Rattle.protocol.specs.Encode.{Encoded, refused, encoded}
+use Rattle.protocol.specs.declared.Way.{Way}
+use Rattle.protocol.specs.declared.Way.the-variants.{Down, Up}
+use Rattle.message_rows.specs.Row.{padded}
+use Rattle.row_messages.specs.RowWriting.{rowEncoded}
+
+pub record Example : Type 0 where
+  pub way : Way
+  pub form : ℕ
+  pub numbers : List ℕ
+  pub opens : List ℕ
+  pub answer : Encoded
+
+abbrev down : ℕ → List ℕ → List ℕ → Encoded → Example
+down f ns opens a = record { way = Down; form = f; numbers = ns; opens = opens; answer = a }
+
+abbrev up : ℕ → List ℕ → List ℕ → Encoded → Example
+up f ns opens a = record { way = Up; form = f; numbers = ns; opens = opens; answer = a }
+
+abbrev pub examples : List Example
+examples =
+    -- no form
+    up 34 [] [] (refused 255 0)
+    ∷ up 0 [] [] (refused 255 0)
+    -- the way first
+    ∷ down 11 (300 ∷ 300 ∷ []) [] (refused 5 2)
+    -- a detachment whose event is another's, or wider than its byte
+    ∷ up 11 (300 ∷ 1 ∷ []) [] (refused 7 4)
+    ∷ up 11 (0 ∷ 300 ∷ []) [] (refused 7 4)
+    -- a port has no list
+    ∷ up 11 (300 ∷ 0 ∷ []) [] (refused 255 0)
+    ∷ up 11 (7 ∷ 0 ∷ []) [] (encoded (0x05 ∷ 0x00 ∷ 0x04 ∷ 0x07 ∷ 0x00 ∷ []))
+    -- the signal strength of no property, of another, and one that is no i8
+    ∷ up 4 (300 ∷ 6 ∷ 0 ∷ []) [] (refused 7 3)
+    ∷ up 4 (3 ∷ 6 ∷ 0 ∷ []) [] (refused 7 4)
+    ∷ up 4 (5 ∷ 6 ∷ 128 ∷ []) [] (refused 255 0)
+    ∷ up 4 (5 ∷ 6 ∷ 18446744073709551488 ∷ []) [] (encoded (0x06 ∷ 0x00 ∷ 0x01 ∷ 0x05 ∷ 0x06 ∷ 0x80 ∷ []))
+    -- a status is 00 or FF
+    ∷ up 10 (1 ∷ 4 ∷ 300 ∷ []) [] (refused 7 5)
+    -- a battery voltage has a list, a network id none
+    ∷ up 3 (6 ∷ 6 ∷ 300 ∷ []) [] (refused 7 5)
+    ∷ up 3 (12 ∷ 6 ∷ 300 ∷ []) [] (refused 255 0)
+    -- a mode before a delta that is too wide
+    ∷ down 21 (0 ∷ 300 ∷ 4294967296 ∷ 0 ∷ []) [] (refused 7 4)
+    ∷ down 21 (0 ∷ 2 ∷ 4294967296 ∷ 0 ∷ []) [] (refused 255 0)
+    ∷ down 21 (0 ∷ 2 ∷ 4294967296 ∷ 0 ∷ []) (0x01 ∷ []) (refused 6 0)
+    -- counts, and entries past them
+    ∷ up 23 (0 ∷ 2 ∷ 300 ∷ []) [] (refused 6 0)
+    ∷ up 23 (0 ∷ 2 ∷ 0 ∷ []) [] (refused 6 0)
+    ∷ up 23 (0 ∷ 2 ∷ 1 ∷ 258 ∷ 18446744073709551615 ∷ []) [] (encoded (0x07 ∷ 0x00 ∷ 0x43 ∷ 0x00 ∷ 0x02 ∷ 0x02 ∷ 0x01 ∷ []))
+    ∷ up 23 (0 ∷ 2 ∷ 2 ∷ 258 ∷ 65536 ∷ []) [] (refused 255 0)
+    -- six bytes, and floats
+    ∷ up 28 (0 ∷ 0 ∷ 8 ∷ 281474976710656 ∷ []) [] (refused 7 6)
+    ∷ up 25 (0 ∷ 0 ∷ 1 ∷ 0 ∷ 2139095040 ∷ []) [] (refused 7 10)
+    ∷ up 25 (0 ∷ 0 ∷ 1 ∷ 0 ∷ 4294967296 ∷ []) [] (refused 255 0)
+    ∷ []
+
+-- the open bytes are said by the call, and not by the row
+abbrev row : Example → List ℕ
+row e = e .form ∷ 0 ∷ 0 ∷ length (e .numbers) ∷ padded 12 (e .numbers)
+
+abbrev written : Example → Encoded
+written e = rowEncoded (e .way) (row e) (e .opens)
+
+abbrev pub ExamplesHold : Type 0
+ExamplesHold = map written examples ≡ map (λ e. e .answer) examples
