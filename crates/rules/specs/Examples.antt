@@ -17,8 +17,10 @@ use Rattle.rules.specs.ValueLookup.{valueExperiment}
 use Rattle.rules.specs.Judge.{widthOf, judgeDisconnect}
 use Rattle.rules.specs.Learn.{bareSettings, learn}
 use Rattle.rules.specs.Offer.{Entry, offerByPast, datasetByPast, viewOfPast}
-use Rattle.rules.specs.Table.{Record, Table, bare}
-use Rattle.rules.specs.Dataset.{Dataset, Number, whole, float, stamped, wholeAt}
+use Rattle.rules.specs.Present.{portsBelow}
+use Rattle.rules.specs.Table.{Record, Table, viewOfTable, bare}
+use Rattle.rules.specs.Dataset.{Dataset, Number, whole, float, stamped, wholeAt, datasetOf}
+use Rattle.rules.specs.Datasets.{allDatasets}
 use Rattle.rules.specs.WellFormed.{wellFormed}
 
 -- ---- messages
@@ -352,6 +354,28 @@ WholeNumbers =
     × (three 1 (0xFD ∷ 0xFF ∷ 0xFF ∷ 0x7F ∷ 0x00 ∷ 0x80 ∷ []) ≡ negℤ (pos 3) ∷ pos 32767 ∷ negℤ (pos 32768) ∷ [])
     × (three 2 (0xFD ∷ 0xFF ∷ 0xFF ∷ 0xFF ∷ 0xFF ∷ 0xFF ∷ 0xFF ∷ 0x7F ∷ 0x00 ∷ 0x00 ∷ 0x00 ∷ 0x80 ∷ []) ≡ negℤ (pos 3) ∷ pos 2147483647 ∷ negℤ (pos 2147483648) ∷ [])
 
+-- all datasets of a value of port 7 in mode 2, by their number and kind: two signed bytes; a float, 1; an infinity after a float; and of
+-- a message that has none
+abbrev ofPort : Number → Dataset
+ofPort n = record { port = 7; mode = 2; state = 1; experiment = 0; value = n }
+
+abbrev valueOf : ℕ → ℕ → List ℕ → Answer (List Dataset)
+valueOf count kind bytes = allDatasets (datasetOf 7 2 1 0 (record { datasets = count; kind = kind; figures = 0; decimals = 0 }) bytes)
+
+abbrev AllDatasets : Type 0
+AllDatasets =
+    (valueOf 2 0 (0x05 ∷ 0xFF ∷ []) ≡ accepted (ofPort (whole (pos 5)) ∷ ofPort (whole (negℤ (pos 1))) ∷ []))
+    × (valueOf 1 3 (0x00 ∷ 0x00 ∷ 0x80 ∷ 0x3F ∷ []) ≡ accepted (ofPort (float (fin false 1 (pos 0))) ∷ []))
+    × (valueOf 2 3 (0x00 ∷ 0x00 ∷ 0x80 ∷ 0x3F ∷ 0x00 ∷ 0x00 ∷ 0x80 ∷ 0x7F ∷ []) ≡ refused 18 0)
+    × (allDatasets (λ number. refused 17 0) ≡ refused 17 0)
+
+-- the ports below 10 of a table with ports 7, 12 and 0
+abbrev unjoined : ℕ → Option Record
+unjoined port = some (record { port = port; facts = bare 0x26 Unjoined })
+
+abbrev PortsInOrder : Type 0
+PortsInOrder = portsBelow 10 (viewOfTable (unjoined 7 ∷ none ∷ unjoined 12 ∷ unjoined 0 ∷ [])) ≡ 0 ∷ 7 ∷ []
+
 -- a value's experiment number at a port whose number is 7, by the state
 abbrev inState : ℕ → Settings
 inState state = record { formats = λ mode. none; answered = none; asked = none; state = state; experiment = 7 }
@@ -372,6 +396,8 @@ abbrev pub ExamplesHold : Type 0
 ExamplesHold =
     Widths
     × WholeNumbers
+    × AllDatasets
+    × PortsInOrder
     × ValueExperiments
     × Disconnections
     × Hold theLog
