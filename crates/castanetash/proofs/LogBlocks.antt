@@ -1,8 +1,8 @@
 -- What the call on a block of a log answers, from what the block function gives in the part of the text that is lent to it.
-use Prim.Native.Nat.{ℕ, zero, suc, _+_, _≤_, _<_}
+use Prim.Native.Nat.{ℕ, _+_, _≤_, _<_}
 use native.Mathlib.Nat.{zero-add}
 use native.Mathlib.Omega.{arith}
-use mathlib.Core.Path.{_≡_, refl, sym, _∙_, ap, subst}
+use mathlib.Core.Path.{_≡_, refl, sym, _∙_, ap}
 use mathlib.Core.Bool.{Bool, true, false, cond}
 use mathlib.Core.List.{List, [], _∷_, _++_, append-assoc}
 use mathlib.Core.Logic.{⊎-elim}
@@ -18,7 +18,7 @@ use Rattle.log.specs.Block.{blockRecords}
 use Rattle.log.specs.Cutting.{Run, printed}
 use Rattle.table.specs.declared.block.Block.{Block}
 use Rattle.table.specs.declared.block.Block.the-variants.{Done, Refused}
-use Rattle.table.specs.BlockAnswer.{Progress, answerOf, blockFits, progress, blockAnswer, blockCells, blockText}
+use Rattle.table.specs.BlockAnswer.{Progress, answerOf, progress, blockAnswer, blockCells, blockText}
 use Rattle.answers.specs.Call.{mapped, inRoom, callNumber, lentAfter}
 use Rattle.castanetash.specs.Answers.{textRoom, runBefore, totalsRow, textOf, blockCall, cellsIf, cellsThen}
 

@@ -11,7 +11,6 @@ use table_cells::outcome_number;
 use table_cells::put_format;
 use table_cells::put_port;
 ghost use mathlib.Core.Path.{_≡_};
-ghost use lib.ListN.{length};
 ghost use Rattle.rules.specs.Answer.{outcome};
 ghost use Rattle.rules.specs.Offer.{cellsAfter, offerByCells};
 ghost use Rattle.answers.specs.Call.{callNumber, mapped, plainNumber, rowAfter, rowNumber};

@@ -3,13 +3,13 @@ use Prim.Native.Nat.{ℕ, zero, suc, _+_, _-_, _≤_, _<_}
 use native.Mathlib.Omega.{arith}
 use mathlib.Core.Path.{_≡_, refl, sym, _∙_, ap}
 use mathlib.Core.Bool.{Bool, true, false, cond, _&&_}
-use mathlib.Core.List.{List, [], _∷_}
+use mathlib.Core.List.{List, _∷_}
 use mathlib.Core.Logic.{⊎-elim}
 use borrow.Author.Tests.{lt-ltb, le-ltb}
 use lib.Dec.{eqb}
 use lib.Ieee.{binary32, ofBits}
 use lib.Ieee.Bits.{toBits-ofBits}
-use lib.IntN.{ℤ, pos}
+use lib.IntN.{pos}
 use Rattle.protocol.specs.Form.{mostDatasets}
 use Rattle.protocol.specs.Number.{isFinite}
 use Rattle.protocol.proofs.Floats.{not-nan}
@@ -17,7 +17,7 @@ use Rattle.protocol.proofs.Tests.{which, and-left, and-right}
 use Rattle.rules.specs.declared.Format.{Format}
 use Rattle.rules.specs.Answer as Answer
 use Rattle.rules.specs.Answer.{Answer}
-use Rattle.rules.specs.Dataset.{Dataset, Number, whole, float, bitsAt, wholeAt, datasetOf}
+use Rattle.rules.specs.Dataset.{Dataset, whole, float, bitsAt, wholeAt, datasetOf}
 use Rattle.rules.specs.Datasets.{withDataset, followedBy, datasetsFrom, ifFirst, allDatasets}
 use Rattle.log.specs.Dataset.{printedAt, numbersAt, finiteAt, finiteFrom, numberAt, datasetAt, datasetsAt}
 use Rattle.log.specs.Line.{refused, values, printedNumber, printedNumbers, withDatasets, valueLine}

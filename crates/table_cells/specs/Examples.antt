@@ -1,5 +1,4 @@
 -- Rows of datasets: a whole number below 0 in two's complement of 64 bits, a float as its 32 bits.
-use Prim.Native.Nat.{ℕ}
 use mathlib.Core.Path.{_≡_}
 use mathlib.Core.Bool.{true}
 use mathlib.Core.List.{[], _∷_}

@@ -1,6 +1,5 @@
 use native.Mathlib.Omega.{arith}
 use borrow.Author.Tests.{lt-ltb, le-ltb}
-use mathlib.Core.Path.{refl, sym}
 use Rattle.castanetash.proofs.log_block.text_room.Statement.{statement}
 use Rattle.castanetash.proofs.log_block.text_room.Tie as tie
 

@@ -1,10 +1,7 @@
-use Prim.Native.Nat.{ℕ}
 use mathlib.Core.Path.{sym, _∙_, ap}
-use mathlib.Core.List.{List}
-use Rattle.protocol.specs.Answer.{answerOf, formOf, valuesOf}
+use Rattle.protocol.specs.Answer.{answerOf}
 use Rattle.protocol.specs.declared.Reading.{Reading}
 use Rattle.rules.specs.Answer.{accepted}
-use Rattle.message_rows.specs.Row.{acceptedRow}
 use Rattle.answers.proofs.Fills.{filled-as, refused-as}
 use lib.ListN.{set}
 use Rattle.castanetash.specs.Answers.{readingRow}
