@@ -1,6 +1,7 @@
 -- The one convention of all calls from C and Rust. A call is refused, and then nothing lent changes; or its answer stands in
 -- front of what was lent, and it tells how much of it was written.
-use Prim.Native.Nat.{ℕ, _+_, _*_}
+use Prim.Native.Nat.{ℕ, _+_, _*_, _≤_, _<_}
+use mathlib.Core.Path.{_≡_}
 use mathlib.Core.Bool.{cond}
 use mathlib.Core.List.{List, _++_}
 use lib.Dec.{ltb}
@@ -11,6 +12,12 @@ use Rattle.rules.specs.Answer.{Answer, refused, accepted}
 abbrev pub callNumber : Answer ℕ → ℕ
 callNumber (refused n place) = n * 4294967296 + place
 callNumber (accepted count) = count
+
+-- no count below 2 ^ 32 is taken for a refusal, and no refusal for another; proved in proofs/Apart.antt
+abbrev pub CallsApart : Type 0
+CallsApart =
+    ((count n place : ℕ) → count < 4294967296 → 1 ≤ n → callNumber (accepted count) ≡ callNumber (refused n place) → ⊥)
+    × ((n place m other : ℕ) → place < 4294967296 → other < 4294967296 → callNumber (refused n place) ≡ callNumber (refused m other) → (n ≡ m) × (place ≡ other))
 
 -- the same answer, with something else for what an accepted call gives
 abbrev pub mapped : {A B : Type 0} → (A → B) → Answer A → Answer B

@@ -90,10 +90,10 @@ module _ (cells totals log text : List ℕ) where
       let x : ltb (length totals) 2 ≡ true = lt-ltb (length totals) 2 short in
       ⊎-elim
       (λ (s : sound cells ≡ true).
-      refused-call 255 0 (ap (λ (b : Bool). inRoom (length totals) (λ (p : Progress). 2) (cond b (accepted (progress 128 run (blockRecords 128 run room))) (refused 9 0))) s ∙ ap (λ (b : Bool). cond b (refused 255 0) (accepted (progress 128 run (blockRecords 128 run room)))) x) r
+      refused-call 255 0 (ap (λ (b : Bool). inRoom (length totals) (λ (p : Progress). length (totalsRow p)) (cond b (accepted (progress 128 run (blockRecords 128 run room))) (refused 9 0))) s ∙ ap (λ (b : Bool). cond b (refused 255 0) (accepted (progress 128 run (blockRecords 128 run room)))) x) r
       (is ∙ ap (λ (b : Bool). callNumber (cond b (refused 255 0) (refused 9 0))) s))
       (λ (s : sound cells ≡ false).
-      refused-call 9 0 (ap (λ (b : Bool). inRoom (length totals) (λ (p : Progress). 2) (cond b (accepted (progress 128 run (blockRecords 128 run room))) (refused 9 0))) s) r
+      refused-call 9 0 (ap (λ (b : Bool). inRoom (length totals) (λ (p : Progress). length (totalsRow p)) (cond b (accepted (progress 128 run (blockRecords 128 run room))) (refused 9 0))) s) r
       (is ∙ ap (λ (b : Bool). callNumber (cond b (refused 255 0) (refused 9 0))) s))
       (which (sound cells))
 
@@ -135,7 +135,7 @@ module _ (cells totals log text : List ℕ) where
           in
           let table-stays : table′ ≡ cells = table-is ∙ cells-if unsound (length (take q text)) refl in
           let text-stays : part′ ++ drop q text ≡ text = ap (λ (l : List ℕ). l ++ drop q text) (part-is ∙ text-if unsound (take q text) refl) ∙ take-append-drop q text in
-          let called : call ≡ refused n place = ap (inRoom (length totals) (λ (p : Progress). 2)) not-taken in
+          let called : call ≡ refused n place = ap (inRoom (length totals) (λ (p : Progress). length (totalsRow p))) not-taken in
           called-by (refused n place) called r table′ totals (part′ ++ drop q text) number table-stays refl text-stays
 
       pub done-called : (taken written lines bad : ℕ) → block ≡ Done taken written lines bad → written ≤ length (take q text) → 2 ≤ length totals → Called written table′ (set (set totals 0 lines) 1 bad) (part′ ++ drop q text)
@@ -148,7 +148,7 @@ module _ (cells totals log text : List ℕ) where
           in
           let line : List ℕ = textOf run (length text) in
           let long : length line ≡ written = ap writtenIn (sym (answer-if good) ∙ yes) in
-          let called : call ≡ accepted p = ap (inRoom (length totals) (λ (x : Progress). 2)) yes ∙ ap (λ (b : Bool). cond b (refused 255 0) (accepted p)) (le-ltb (length totals) 2 enough) in
+          let called : call ≡ accepted p = ap (inRoom (length totals) (λ (x : Progress). length (totalsRow x))) yes ∙ ap (λ (b : Bool). cond b (refused 255 0) (accepted p)) (le-ltb (length totals) 2 enough) in
           let text-is : part′ ++ drop q text ≡ line ++ drop (length line) text =
           ap (λ (l : List ℕ). l ++ drop q text) (part-is ∙ text-done good (take q text) size) ∙ whole-text line text q le (omega (arith, long, fits, length-take-le q text le))
           in

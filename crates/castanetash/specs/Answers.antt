@@ -1,5 +1,5 @@
 -- What each call gives, before it is held to the room that was lent for it.
-use Prim.Native.Nat.{ℕ, _*_}
+use Prim.Native.Nat.{ℕ}
 use mathlib.Core.Bool.{cond}
 use mathlib.Core.List.{List, [], _∷_, _++_}
 use lib.Dec.{ltb}
@@ -40,7 +40,7 @@ datasetRows [] = []
 datasetRows (d ∷ ds) = datasetRow d ++ datasetRows ds
 
 abbrev pub valuesInRoom : List ℕ → Answer (List Dataset) → Answer (List Dataset)
-valuesInRoom lent a = inRoom (length lent) (λ ds. 6 * length ds) a
+valuesInRoom lent a = inRoom (length lent) (λ ds. length (datasetRows ds)) a
 
 abbrev pub valuesNumber : List ℕ → Answer (List Dataset) → ℕ
 valuesNumber lent a = callNumber (mapped length (valuesInRoom lent a))
@@ -68,7 +68,7 @@ abbrev pub textOf : Run → ℕ → List ℕ
 textOf r room = printed 128 (blockRecords 128 r (textRoom room)) r
 
 unfoldable pub blockCall : List ℕ → List ℕ → List ℕ → ℕ → Answer Progress
-blockCall cells totals log room = inRoom (length totals) (λ p. 2) (blockAnswer 128 (runBefore cells totals log) (textRoom room))
+blockCall cells totals log room = inRoom (length totals) (λ p. length (totalsRow p)) (blockAnswer 128 (runBefore cells totals log) (textRoom room))
 
 -- the table afterwards
 abbrev pub cellsIf : {A : Type 0} → List ℕ → List ℕ → Answer A → List ℕ
