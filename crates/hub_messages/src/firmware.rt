@@ -40,7 +40,7 @@ pub fn go_into_boot_mode(s: &[u8]) -> Reading
     ensures { λ r. ⌜ answerOf r ≡ decodeForm Form.goIntoBootMode (now (s .entry)) ⌝ }
 {
     if s.len() != 12 {
-        return wrong_size();
+        return wrong_size(12);
     }
     let i = first_difference(s, 3, &BOOT_STRING);
     if i < 9 {
@@ -54,7 +54,7 @@ pub fn lock_memory(s: &[u8]) -> Reading
     ensures { λ r. ⌜ answerOf r ≡ decodeForm Form.lockMemory (now (s .entry)) ⌝ }
 {
     if s.len() != 11 {
-        return wrong_size();
+        return wrong_size(11);
     }
     let i = first_difference(s, 3, &LOCK_STRING);
     if i < 8 {
@@ -68,7 +68,7 @@ pub fn lock_status_request(s: &[u8]) -> Reading
     ensures { λ r. ⌜ answerOf r ≡ decodeForm Form.lockStatusRequest (now (s .entry)) ⌝ }
 {
     if s.len() != 3 {
-        return wrong_size();
+        return wrong_size(3);
     }
     Reading::Accepted(Message::LockStatusRequest)
 }
@@ -78,7 +78,7 @@ pub fn lock_status(s: &[u8]) -> Reading
     ensures { λ r. ⌜ answerOf r ≡ decodeForm Form.lockStatus (now (s .entry)) ⌝ }
 {
     if s.len() != 4 {
-        return wrong_size();
+        return wrong_size(4);
     }
     Reading::Accepted(Message::LockStatus { status: s[3] })
 }

@@ -30,7 +30,7 @@ pub fn hub_actions_down(s: &[u8]) -> Reading
     ensures { λ r. ⌜ answerOf r ≡ decodeType (hubActions Down) (now (s .entry)) ⌝ }
 {
     if s.len() < 4 {
-        return wrong_size();
+        return wrong_size(4);
     }
     if !is_down_action(s[3]) {
         return outside(3);
@@ -43,7 +43,7 @@ pub fn hub_actions_up(s: &[u8]) -> Reading
     ensures { λ r. ⌜ answerOf r ≡ decodeType (hubActions Up) (now (s .entry)) ⌝ }
 {
     if s.len() < 4 {
-        return wrong_size();
+        return wrong_size(4);
     }
     if !between(0x30, s[3], 0x32) {
         return outside(3);
@@ -55,7 +55,7 @@ fn hub_action(s: &[u8]) -> Reading
     ensures { λ r. ⌜ answerOf r ≡ decodeForm Form.hubAction (now (s .entry)) ⌝ }
 {
     if s.len() != 4 {
-        return wrong_size();
+        return wrong_size(4);
     }
     Reading::Accepted(Message::HubAction { action: s[3] })
 }
@@ -65,7 +65,7 @@ pub fn hub_alerts_down(s: &[u8]) -> Reading
     ensures { λ r. ⌜ answerOf r ≡ decodeType (hubAlerts Down) (now (s .entry)) ⌝ }
 {
     if s.len() < 5 {
-        return wrong_size();
+        return wrong_size(5);
     }
     if !between(1, s[3], 4) {
         return outside(3);
@@ -81,7 +81,7 @@ pub fn hub_alerts_up(s: &[u8]) -> Reading
     ensures { λ r. ⌜ answerOf r ≡ decodeType (hubAlerts Up) (now (s .entry)) ⌝ }
 {
     if s.len() < 5 {
-        return wrong_size();
+        return wrong_size(5);
     }
     if !between(1, s[3], 4) {
         return outside(3);
@@ -96,7 +96,7 @@ fn alert_command(s: &[u8]) -> Reading
     ensures { λ r. ⌜ answerOf r ≡ decodeForm Form.alertCommand (now (s .entry)) ⌝ }
 {
     if s.len() != 5 {
-        return wrong_size();
+        return wrong_size(5);
     }
     Reading::Accepted(Message::AlertCommand {
         alert: s[3],
@@ -109,7 +109,7 @@ fn alert_update(s: &[u8]) -> Reading
     ensures { λ r. ⌜ answerOf r ≡ decodeForm Form.alertUpdate (now (s .entry)) ⌝ }
 {
     if s.len() != 6 {
-        return wrong_size();
+        return wrong_size(6);
     }
     let status = s[5];
     if !is_alert_status(status) {
@@ -126,7 +126,7 @@ pub fn generic_error(s: &[u8]) -> Reading
     ensures { λ r. ⌜ answerOf r ≡ decodeForm Form.genericError (now (s .entry)) ⌝ }
 {
     if s.len() != 5 {
-        return wrong_size();
+        return wrong_size(5);
     }
     let error = s[4];
     if !between(1, error, 8) {

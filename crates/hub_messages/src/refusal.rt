@@ -10,11 +10,11 @@ pub fn refuse(number: u8, place: u16) -> Reading
     Reading::Refused { number, place }
 }
 
-// 6: not a size for the type and its selectors.
-pub fn wrong_size() -> Reading
-    ensures { λ r. ⌜ answerOf r ≡ wrongSize ⌝ }
+// 6: not a size for the type and its selectors, and the size that is wanted.
+pub fn wrong_size(wanted: u16) -> Reading
+    ensures { λ r. ⌜ answerOf r ≡ wrongSize wanted ⌝ }
 {
-    refuse(6, 0)
+    refuse(6, wanted)
 }
 
 // 7: the field at `place` is outside its list.

@@ -21,7 +21,7 @@ pub fn port_mode_information(s: &[u8]) -> Reading
     ensures { λ r. ⌜ answerOf r ≡ decodeType portModeInformation (now (s .entry)) ⌝ }
 {
     if s.len() < 6 {
-        return wrong_size();
+        return wrong_size(6);
     }
     let information = s[5];
     match information {
@@ -44,10 +44,10 @@ fn mode_text(s: &[u8], most: usize) -> Reading
     ensures { λ r. ⌜ answerOf r ≡ decodeForm (Form.modeText (getD (now (s .entry)) 5 0)) (now (s .entry)) ⌝ }
 {
     if s.len() < 7 {
-        return wrong_size();
+        return wrong_size(7);
     }
     if most < s.len() {
-        return wrong_size();
+        return wrong_size(7);
     }
     let mode = s[4];
     if 15 < mode {
@@ -64,7 +64,7 @@ fn mode_range(s: &[u8]) -> Reading
     ensures { λ r. ⌜ answerOf r ≡ decodeForm Form.modeRange (now (s .entry)) ⌝ }
 {
     if s.len() != 14 {
-        return wrong_size();
+        return wrong_size(14);
     }
     let mode = s[4];
     if 15 < mode {
@@ -90,7 +90,7 @@ fn mode_mapping(s: &[u8]) -> Reading
     ensures { λ r. ⌜ answerOf r ≡ decodeForm Form.modeMapping (now (s .entry)) ⌝ }
 {
     if s.len() != 8 {
-        return wrong_size();
+        return wrong_size(8);
     }
     let mode = s[4];
     if 15 < mode {
@@ -108,7 +108,7 @@ fn mode_bias(s: &[u8]) -> Reading
     ensures { λ r. ⌜ answerOf r ≡ decodeForm Form.modeBias (now (s .entry)) ⌝ }
 {
     if s.len() != 7 {
-        return wrong_size();
+        return wrong_size(7);
     }
     let mode = s[4];
     if 15 < mode {
@@ -130,7 +130,7 @@ fn mode_capabilities(s: &[u8]) -> Reading
     ensures { λ r. ⌜ answerOf r ≡ decodeForm Form.modeCapabilities (now (s .entry)) ⌝ }
 {
     if s.len() != 12 {
-        return wrong_size();
+        return wrong_size(12);
     }
     let mode = s[4];
     if 15 < mode {
@@ -148,7 +148,7 @@ fn value_format(s: &[u8]) -> Reading
     ensures { λ r. ⌜ answerOf r ≡ decodeForm Form.valueFormat (now (s .entry)) ⌝ }
 {
     if s.len() != 10 {
-        return wrong_size();
+        return wrong_size(10);
     }
     let mode = s[4];
     if 15 < mode {

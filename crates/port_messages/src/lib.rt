@@ -21,7 +21,7 @@ pub fn hub_attached_io(s: &[u8]) -> Reading
     ensures { λ r. ⌜ answerOf r ≡ decodeType hubAttachedIo (now (s .entry)) ⌝ }
 {
     if s.len() < 5 {
-        return wrong_size();
+        return wrong_size(5);
     }
     let event = s[4];
     match event {
@@ -37,7 +37,7 @@ fn detached(s: &[u8]) -> Reading
     ensures { λ r. ⌜ answerOf r ≡ decodeForm Form.detached (now (s .entry)) ⌝ }
 {
     if s.len() != 5 {
-        return wrong_size();
+        return wrong_size(5);
     }
     Reading::Accepted(Message::Detached { port: s[3] })
 }
@@ -47,7 +47,7 @@ fn attached(s: &[u8]) -> Reading
     ensures { λ r. ⌜ answerOf r ≡ decodeForm Form.attached (now (s .entry)) ⌝ }
 {
     if s.len() != 15 {
-        return wrong_size();
+        return wrong_size(15);
     }
     Reading::Accepted(Message::Attached {
         port: s[3],
@@ -62,7 +62,7 @@ fn attached_virtual(s: &[u8]) -> Reading
     ensures { λ r. ⌜ answerOf r ≡ decodeForm Form.attachedVirtual (now (s .entry)) ⌝ }
 {
     if s.len() != 9 {
-        return wrong_size();
+        return wrong_size(9);
     }
     Reading::Accepted(Message::AttachedVirtual {
         port: s[3],
@@ -77,7 +77,7 @@ pub fn port_information_request(s: &[u8]) -> Reading
     ensures { λ r. ⌜ answerOf r ≡ decodeForm Form.portInformationRequest (now (s .entry)) ⌝ }
 {
     if s.len() != 5 {
-        return wrong_size();
+        return wrong_size(5);
     }
     let information = s[4];
     if 2 < information {
@@ -94,7 +94,7 @@ pub fn mode_information_request(s: &[u8]) -> Reading
     ensures { λ r. ⌜ answerOf r ≡ decodeForm Form.modeInformationRequest (now (s .entry)) ⌝ }
 {
     if s.len() != 6 {
-        return wrong_size();
+        return wrong_size(6);
     }
     let mode = s[4];
     if 15 < mode {
@@ -116,7 +116,7 @@ pub fn input_format_setup(s: &[u8]) -> Reading
     ensures { λ r. ⌜ answerOf r ≡ decodeForm Form.inputFormatSetup (now (s .entry)) ⌝ }
 {
     if s.len() != 10 {
-        return wrong_size();
+        return wrong_size(10);
     }
     let mode = s[4];
     if 15 < mode {
@@ -139,7 +139,7 @@ pub fn port_information(s: &[u8]) -> Reading
     ensures { λ r. ⌜ answerOf r ≡ decodeType portInformation (now (s .entry)) ⌝ }
 {
     if s.len() < 5 {
-        return wrong_size();
+        return wrong_size(5);
     }
     let information = s[4];
     match information {
@@ -154,7 +154,7 @@ fn port_modes(s: &[u8]) -> Reading
     ensures { λ r. ⌜ answerOf r ≡ decodeForm Form.portModes (now (s .entry)) ⌝ }
 {
     if s.len() != 11 {
-        return wrong_size();
+        return wrong_size(11);
     }
     let capabilities = s[5];
     if 15 < capabilities {
@@ -183,13 +183,13 @@ fn port_combinations(s: &[u8]) -> Reading
 {
     let size = s.len();
     if size < 7 {
-        return wrong_size();
+        return wrong_size(7);
     }
     if 21 < size {
-        return wrong_size();
+        return wrong_size(7);
     }
     if (size - 5) % 2 != 0 {
-        return wrong_size();
+        return wrong_size(7);
     }
     let count = (size - 5) / 2;
     Reading::Accepted(Message::PortCombinations {
@@ -213,10 +213,10 @@ pub fn port_value(s: &[u8]) -> Reading
     ensures { λ r. ⌜ answerOf r ≡ decodeForm Form.portValue (now (s .entry)) ⌝ }
 {
     if s.len() < 5 {
-        return wrong_size();
+        return wrong_size(5);
     }
     if 127 < s.len() {
-        return wrong_size();
+        return wrong_size(5);
     }
     Reading::Accepted(Message::PortValue { port: s[3] })
 }
@@ -226,7 +226,7 @@ pub fn input_format(s: &[u8]) -> Reading
     ensures { λ r. ⌜ answerOf r ≡ decodeForm Form.inputFormat (now (s .entry)) ⌝ }
 {
     if s.len() != 10 {
-        return wrong_size();
+        return wrong_size(10);
     }
     let mode = s[4];
     if 15 < mode {
@@ -249,7 +249,7 @@ pub fn virtual_port_setup(s: &[u8]) -> Reading
     ensures { λ r. ⌜ answerOf r ≡ decodeType virtualPortSetup (now (s .entry)) ⌝ }
 {
     if s.len() < 4 {
-        return wrong_size();
+        return wrong_size(4);
     }
     let sub = s[3];
     match sub {
@@ -264,7 +264,7 @@ fn virtual_disconnect(s: &[u8]) -> Reading
     ensures { λ r. ⌜ answerOf r ≡ decodeForm Form.virtualDisconnect (now (s .entry)) ⌝ }
 {
     if s.len() != 5 {
-        return wrong_size();
+        return wrong_size(5);
     }
     Reading::Accepted(Message::VirtualDisconnect { port: s[4] })
 }
@@ -274,7 +274,7 @@ fn virtual_connect(s: &[u8]) -> Reading
     ensures { λ r. ⌜ answerOf r ≡ decodeForm Form.virtualConnect (now (s .entry)) ⌝ }
 {
     if s.len() != 6 {
-        return wrong_size();
+        return wrong_size(6);
     }
     Reading::Accepted(Message::VirtualConnect {
         port_a: s[4],

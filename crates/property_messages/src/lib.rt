@@ -26,7 +26,7 @@ pub fn hub_properties(s: &[u8], way: Way) -> Reading
     ensures { λ r. ⌜ answerOf r ≡ decodeType (Types.hubProperties way) (now (s .entry)) ⌝ }
 {
     if s.len() < 5 {
-        return wrong_size();
+        return wrong_size(5);
     }
     let operation = s[4];
     let place = outside_selector(way, s[3], operation);
@@ -44,7 +44,7 @@ fn property_command(s: &[u8]) -> Reading
     ensures { λ r. ⌜ answerOf r ≡ decodeForm Form.propertyCommand (now (s .entry)) ⌝ }
 {
     if s.len() != 5 {
-        return wrong_size();
+        return wrong_size(5);
     }
     Reading::Accepted(Message::PropertyCommand {
         property: s[3],
@@ -78,10 +78,10 @@ fn property_text(s: &[u8], most: usize) -> Reading
     ensures { λ r. ⌜ answerOf r ≡ decodeForm (Form.propertyText (getD (now (s .entry)) 3 0)) (now (s .entry)) ⌝ }
 {
     if s.len() < 6 {
-        return wrong_size();
+        return wrong_size(6);
     }
     if most < s.len() {
-        return wrong_size();
+        return wrong_size(6);
     }
     Reading::Accepted(Message::PropertyText {
         property: s[3],
@@ -93,7 +93,7 @@ fn property_byte(s: &[u8]) -> Reading
     ensures { λ r. ⌜ answerOf r ≡ decodeForm (Form.propertyByte (getD (now (s .entry)) 3 0)) (now (s .entry)) ⌝ }
 {
     if s.len() != 6 {
-        return wrong_size();
+        return wrong_size(6);
     }
     let property = s[3];
     let value = s[5];
@@ -112,7 +112,7 @@ fn property_rssi(s: &[u8]) -> Reading
     ensures { λ r. ⌜ answerOf r ≡ decodeForm Form.propertyRssi (now (s .entry)) ⌝ }
 {
     if s.len() != 6 {
-        return wrong_size();
+        return wrong_size(6);
     }
     Reading::Accepted(Message::PropertyRssi {
         operation: s[4],
@@ -124,7 +124,7 @@ fn property_version(s: &[u8]) -> Reading
     ensures { λ r. ⌜ answerOf r ≡ decodeForm Form.propertyVersion (now (s .entry)) ⌝ }
 {
     if s.len() != 9 {
-        return wrong_size();
+        return wrong_size(9);
     }
     Reading::Accepted(Message::PropertyVersion {
         property: s[3],
@@ -138,7 +138,7 @@ fn property_protocol(s: &[u8]) -> Reading
     ensures { λ r. ⌜ answerOf r ≡ decodeForm Form.propertyProtocol (now (s .entry)) ⌝ }
 {
     if s.len() != 7 {
-        return wrong_size();
+        return wrong_size(7);
     }
     Reading::Accepted(Message::PropertyProtocol {
         operation: s[4],
@@ -150,7 +150,7 @@ fn property_address(s: &[u8]) -> Reading
     ensures { λ r. ⌜ answerOf r ≡ decodeForm Form.propertyAddress (now (s .entry)) ⌝ }
 {
     if s.len() != 11 {
-        return wrong_size();
+        return wrong_size(11);
     }
     Reading::Accepted(Message::PropertyAddress {
         property: s[3],

@@ -11,7 +11,7 @@ use Rattle.protocol.specs.Properties.{carries}
 use Rattle.protocol.specs.Field.{Value}
 use Rattle.protocol.specs.Form
 use Rattle.protocol.specs.Form.{Form, layout}
-use Rattle.protocol.specs.Types.{Selection, always, select, MessageType, payload, types, hubProperties, hubActions, hubAlerts, hubAttachedIo, portInformation, portModeInformation, virtualPortSetup}
+use Rattle.protocol.specs.Types.{Selection, always, select, MessageType, selectors, payload, types, hubProperties, hubActions, hubAlerts, hubAttachedIo, portInformation, portModeInformation, virtualPortSetup}
 use Rattle.protocol.specs.Decode.{accepted, header, decodeForm, decodeSelection}
 use Rattle.protocol.specs.Answer.{naturalAt, answerOf, messageOf}
 use Rattle.protocol.specs.RoundTrip.{AcceptedIsMessage}
@@ -52,7 +52,7 @@ IsMessage f vs = answerOf (Accepted (messageOf f vs)) ≡ accepted f vs
 
 -- all values with which a type's selectors lead to a form are a message's
 abbrev AreMessages : ℕ → MessageType → Type 0
-AreMessages c t = Leading (t .selection) IsMessage
+AreMessages c t = Leading t IsMessage
 
 -- where the two selectors are these
 abbrev WithSelectors : ℕ → ℕ → Form → List Value → Type 0
@@ -154,8 +154,8 @@ pub accepted-is-message : AcceptedIsMessage
 accepted-is-message way s f vs e =
     let t = type-found way s f vs (headed way s f vs e .rest) in
     let c : ℕ = getD s 2 0 in
-    let k : ℕ = t .type .selectors in
-    let lead : Leads c k (t .type .selection) = leads way c (t .type) (t .found) in
-    let ch = chosen c k (t .type .selection) lead s f vs (t .rest) in
-    leading-accepted k (t .type .selection) IsMessage (found AreMessages (types way) (all-messages way) c (t .type) (t .found)) c lead s f vs
+    let k : ℕ = selectors (t .type) in
+    let lead : Leads c k (t .type) = leads way c (t .type) (t .found) in
+    let ch = chosen c k (t .type) lead s f vs (t .rest) in
+    leading-accepted k (t .type) IsMessage (found AreMessages (types way) (all-messages way) c (t .type) (t .found)) c lead s f vs
     (selectors-read k f (ch .fit .1) s vs (ch .form)) (t .rest)

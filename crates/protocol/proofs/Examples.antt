@@ -4,11 +4,11 @@ use lib.Ieee.{ofBits}
 use Rattle.protocol.specs.Number.{littleEndian, bigEndian}
 use Rattle.protocol.specs.Field.{sameBytes}
 use Rattle.protocol.specs.Properties.{permits, allowed, carries}
-use Rattle.protocol.specs.Form.{layout}
+use Rattle.protocol.specs.Form.{layout, longestModeText}
 use Rattle.protocol.specs.Types.{types, payload, downAction, hubProperties, hubActions, hubAlerts, hubAttachedIo, portInformation, portModeInformation, virtualPortSetup}
 use Rattle.protocol.specs.Decode.{decode, decodeWay, decodeType, decodeForm}
 use Rattle.protocol.specs.Examples.{ExamplesHold}
 
 pub examples-hold : ExamplesHold
-unfolding decode decodeWay decodeType decodeForm types hubProperties hubActions hubAlerts hubAttachedIo portInformation portModeInformation virtualPortSetup layout permits allowed carries payload downAction littleEndian bigEndian sameBytes ofBits
+unfolding decode decodeWay decodeType decodeForm types hubProperties hubActions hubAlerts hubAttachedIo portInformation portModeInformation virtualPortSetup layout longestModeText permits allowed carries payload downAction littleEndian bigEndian sameBytes ofBits
 examples-hold = refl

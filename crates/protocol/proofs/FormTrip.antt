@@ -15,7 +15,7 @@ use Rattle.protocol.specs.Field.{Field, Value, natural, widths, Fields, 
 use Rattle.protocol.specs.Field as Field'
 use Rattle.protocol.specs.Form
 use Rattle.protocol.specs.Form.{Form, Rest, nothing, openRun, words, layout, fits, wordsFrom, upFrom, readRest, openBytes, code}
-use Rattle.protocol.specs.Decode.{accepted, wrongSize, header, valuesOrRefusal, decodeForm}
+use Rattle.protocol.specs.Decode.{accepted, wrongSize, header, fieldsEnd, sizeFits, smallestSize, valuesOrRefusal, decodeForm}
 use Rattle.protocol.specs.Encode.{encoded, Written, wrote, before, writeFields, restFits, writeRest, thenRest, framed, closed, afterFields, encodeForm, settleRest, settledValues}
 use Rattle.protocol.specs.Encode as Encode'
 use Rattle.protocol.proofs.Tests.{which, and-left, and-right}
@@ -101,8 +101,8 @@ rest-written (words most) s b end f rs e =
 
 -- a form that was accepted: its size is right, and its fields and rest were read
 pub record Read (f : Form) (s : List ℕ) (vs : List Value) : Type 0 where
-  pub size : fits (layout f .rest) (header + widths (layout f .fields)) (length s) ≡ true
-  pub both : Both (readFields s header (layout f .fields)) (readRest s (header + widths (layout f .fields)) (layout f .rest)) vs
+  pub size : sizeFits f (length s) ≡ true
+  pub both : Both (readFields s header (layout f .fields)) (readRest s (fieldsEnd f) (layout f .rest)) vs
 
 values-accepted : (f : Form) (x : Fields) (vs : List Value) → valuesOrRefusal f x ≡ accepted f vs → x ≡ values vs
 values-accepted f (Field'.outside at) vs e = let z : _≡_ {A = ℕ} 0 1 = cc in absurd (omega arith)
@@ -111,14 +111,14 @@ values-accepted f (values us) vs e = cc
 pub was-read : (f : Form) (s : List ℕ) (vs : List Value) → decodeForm f s ≡ accepted f vs → Read f s vs
 unfolding decodeForm
 was-read f s vs e =
-    let end : ℕ = header + widths (layout f .fields) in
+    let end : ℕ = fieldsEnd f in
     let x : Fields = andThen (readFields s header (layout f .fields)) (readRest s end (layout f .rest)) in
     ⊎-elim
     (λ (yes : fits (layout f .rest) end (length s) ≡ true).
     let a : valuesOrRefusal f x ≡ accepted f vs = rw yes at e in
     record { size = yes; both = both-read _ _ vs (values-accepted f x vs a) })
     (λ (no : fits (layout f .rest) end (length s) ≡ false).
-    let a : wrongSize ≡ accepted f vs = rw no at e in
+    let a : wrongSize (smallestSize f) ≡ accepted f vs = rw no at e in
     let z : _≡_ {A = ℕ} 0 1 = cc in absurd (omega arith))
     (which (fits (layout f .rest) end (length s)))
 
@@ -131,7 +131,7 @@ closed-written : (f : Form) (bs : List ℕ) (vs : List Value) → closed f (wrot
 closed-written f bs vs = refl
 
 pub form-written : (f : Form) (s : List ℕ) → Bytes s → (vs : List Value) → decodeForm f s ≡ accepted f vs
-    → encodeForm f vs (openBytes s (header + widths (layout f .fields)) (layout f .rest)) ≡ encoded (framed (code f) (drop header s))
+    → encodeForm f vs (openBytes s (fieldsEnd f) (layout f .rest)) ≡ encoded (framed (code f) (drop header s))
 unfolding encodeForm
 form-written f s b vs e =
     let fs : List Field = layout f .fields in
@@ -213,7 +213,7 @@ pub record Wrote (f : Form) (vs : List Value) (opens t : List ℕ) : Type 0 wher
   pub front-is : writeFields header (layout f .fields) vs ≡ wrote front left
   pub back : List ℕ
   pub unused : List Value
-  pub back-is : writeRest (header + widths (layout f .fields)) (layout f .rest) left opens ≡ wrote back unused
+  pub back-is : writeRest (fieldsEnd f) (layout f .rest) left opens ≡ wrote back unused
   pub bytes : t ≡ framed (code f) (front ++ back)
 
 record Joined (at : ℕ) (r : Rest) (opens : List ℕ) (w : Written) (c : ℕ) (t : List ℕ) : Type 0 where
@@ -244,7 +244,7 @@ was-written f vs opens t e =
     let j = joined f end r opens (writeFields header fs vs) t (rw yes at e) in
     record { right = yes; front = j .front; left = j .left; front-is = j .front-is; back = j .back; unused = j .unused; back-is = j .back-is; bytes = j .bytes })
     (λ (no : restFits r (afterFields fs vs) (length opens) ≡ false).
-    let a : Encode'.refused 6 0 ≡ encoded t = rw no at e in
+    let a : Encode'.refused 6 (smallestSize f) ≡ encoded t = rw no at e in
     let z : _≡_ {A = ℕ} 0 1 = cc in absurd (omega arith))
     (which (restFits r (afterFields fs vs) (length opens)))
 
@@ -253,9 +253,9 @@ pub record FormRead (f : Form) (vs : List Value) (opens t : List ℕ) : Type 0 w
   pub bytes : t ≡ framed (code f) body
   pub room : widths (layout f .fields) ≤ length body
   pub front-is : (left : List Value) × (writeFields header (layout f .fields) vs ≡ wrote (take (widths (layout f .fields)) body) left)
-  pub size : fits (layout f .rest) (header + widths (layout f .fields)) (length t) ≡ true
+  pub size : sizeFits f (length t) ≡ true
   pub read : decodeForm f t ≡ accepted f (settledValues (layout f) vs)
-  pub open-is : openBytes t (header + widths (layout f .fields)) (layout f .rest) ≡ opens
+  pub open-is : openBytes t (fieldsEnd f) (layout f .rest) ≡ opens
 
 pub form-read : (f : Form) (vs : List Value) (opens t : List ℕ) → Shaped (layout f .rest) (afterFields (layout f .fields) vs) → encodeForm f vs opens ≡ encoded t → FormRead f vs opens t
 unfolding decodeForm

@@ -10,6 +10,7 @@ pub mod RoundTrip
 pub mod AcceptedMessage
 pub mod ValueKinds
 pub mod SelectionTrip
+pub mod Sizes
 pub mod Floats
 pub mod Selection
 pub mod Signed

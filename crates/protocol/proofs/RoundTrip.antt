@@ -16,8 +16,8 @@ use Rattle.protocol.specs.Field as Field'
 use Rattle.protocol.specs.Form
 use Rattle.protocol.specs.Form.{Form, Rest, nothing, openRun, words, layout, longestModeText, fits, readRest, openBytes, code, formNumber, formsBy, argument, sameForm}
 use Rattle.protocol.specs.Properties.{longest}
-use Rattle.protocol.specs.Types.{Selection, always, select, MessageType, types, typeOf}
-use Rattle.protocol.specs.Decode.{Answer, accepted, header, longestMessage, valuesOrRefusal, decodeForm, decodeSelection, decodeType, decodeTyped, decodeWay, decode, openOf, openPart}
+use Rattle.protocol.specs.Types.{Selection, always, select, MessageType, selectors, types, typeOf}
+use Rattle.protocol.specs.Decode.{Answer, accepted, header, fieldsEnd, sizeFits, smallestSize, selectorsSize, longestMessage, valuesOrRefusal, decodeForm, decodeSelection, decodeType, decodeTyped, decodeWay, decode, openOf, openPart}
 use Rattle.protocol.specs.Decode as Decode'
 use Rattle.protocol.specs.Answer.{naturalAt, formOf, valuesOf}
 use Rattle.protocol.specs.Encode.{Encoded, encoded, framed, afterFields, encodeForm, encodeSelection, encodeTyped, encodeValues, encode, settledValues}
@@ -30,6 +30,7 @@ use Rattle.protocol.specs.declared.Way.{Way}
 use Rattle.protocol.proofs.Tests.{which, and-left, and-right}
 use Rattle.protocol.proofs.FormTrip.{was-read, form-written, Shaped, form-read}
 use Rattle.protocol.proofs.Selection.{headed as head, typed, long-enough}
+use Rattle.protocol.proofs.Sizes.{short}
 use Rattle.protocol.proofs.SelectionTrip.{Narrow, narrow-read, narrow-written, narrow-widths, Fitting, Leads, leads}
 
 -- ---- what was read is written back
@@ -69,8 +70,8 @@ headed way s f vs e =
 pub record TypeFound (way : Way) (s : List ℕ) (f : Form) (vs : List Value) : Type 0 where
   pub type : MessageType
   pub found : typeOf (getD s 2 0) (types way) ≡ some type
-  pub room : header + type .selectors ≤ length s
-  pub rest : decodeSelection (type .selection) s ≡ accepted f vs
+  pub room : selectorsSize type ≤ length s
+  pub rest : decodeSelection type s ≡ accepted f vs
 
 pub type-found : (way : Way) (s : List ℕ) (f : Form) (vs : List Value) → decodeWay way s ≡ accepted f vs → TypeFound way s f vs
 unfolding decodeWay decodeType
@@ -79,15 +80,15 @@ type-found way s f vs e = go (typeOf (getD s 2 0) (types way)) refl e
     go : (o : Option MessageType) → typeOf (getD s 2 0) (types way) ≡ o → decodeTyped o s ≡ accepted f vs → TypeFound way s f vs
     go none k g = let z : _≡_ {A = ℕ} 0 1 = cc in absurd (omega arith)
     go (some t) k g =
-        let n = not-refused (ltb (length s) (header + t .selectors)) 6 0 _ f vs g in
-        record { type = t; found = k; room = ltb-false (length s) (header + t .selectors) (n .0); rest = n .1 }
+        let n = not-refused (ltb (length s) (selectorsSize t)) 6 _ _ f vs g in
+        record { type = t; found = k; room = ltb-false (length s) (selectorsSize t) (n .0); rest = n .1 }
 
 -- an accepted form is the one that was tried
 pub form-is : (g : Form) (s : List ℕ) (f : Form) (vs : List Value) → decodeForm g s ≡ accepted f vs → g ≡ f
 unfolding decodeForm
 form-is g s f vs e =
-    let x : Fields = andThen (readFields s header (layout g .fields)) (readRest s (header + widths (layout g .fields)) (layout g .rest)) in
-    let n = not-else (fits (layout g .rest) (header + widths (layout g .fields)) (length s)) 6 0 (valuesOrRefusal g x) f vs e in
+    let x : Fields = andThen (readFields s header (layout g .fields)) (readRest s (fieldsEnd g) (layout g .rest)) in
+    let n = not-else (sizeFits g (length s)) 6 (smallestSize g) (valuesOrRefusal g x) f vs e in
     go x (n .1)
   where
     go : (x : Fields) → valuesOrRefusal g x ≡ accepted f vs → g ≡ f
@@ -180,80 +181,14 @@ values-written way s b f vs e =
     let h = headed way s f vs e in
     let t = type-found way s f vs (h .rest) in
     let type : MessageType = t .type in
-    let ch = chosen (getD s 2 0) (type .selectors) (type .selection) (leads way (getD s 2 0) type (t .found)) s f vs (t .rest) in
-    let opens : List ℕ = openBytes s (header + widths (layout f .fields)) (layout f .rest) in
+    let ch = chosen (getD s 2 0) (selectors type) type (leads way (getD s 2 0) type (t .found)) s f vs (t .rest) in
+    let opens : List ℕ = openBytes s (fieldsEnd f) (layout f .rest) in
     let found : typeOf (code f) (types way) ≡ some type = ap (λ (k : ℕ). typeOf k (types way)) (ch .fit .0) ∙ t .found in
     let written : encodeForm f vs opens ≡ encoded (framed (code f) (drop header s)) = form-written f s b vs (ch .form) in
     let bytes : framed (code f) (drop header s) ≡ s = framed-back s (code f) (h .least) (h .size) (h .hub) (sym (ch .fit .0)) in
-    rw (found, e) (ch .writes (header + type .selectors - 1) opens ∙ written ∙ ap encoded bytes)
+    rw (found, e) (ch .writes (selectorsSize type - 1) opens ∙ written ∙ ap encoded bytes)
 
 -- ---- what was written is read back
-
--- the greatest size that fits, where the fields end at a place
-abbrev greatestSize : Rest → ℕ → ℕ
-greatestSize nothing end = end
-greatestSize (openRun least most) end = end + most
-greatestSize (words most) end = end + 2 * most
-
-fits-greatest : (r : Rest) (end n : ℕ) → fits r end n ≡ true → n ≤ greatestSize r end
-fits-greatest nothing end n e = omega (arith, eqb-true n end e)
-fits-greatest (openRun least most) end n e = leb-true n (end + most) (and-right (leb (end + least) n) (leb n (end + most)) e)
-fits-greatest (words most) end n e =
-    leb-true n (end + 2 * most)
-    (and-right (leb (end + 2) n) (leb n (end + 2 * most)) (and-left (leb (end + 2) n && leb n (end + 2 * most)) (eqb ((n - end) % 2) 0) e))
-
--- which is no more than the longest message
-abbrev Short : Form → Type 0
-Short f = greatestSize (layout f .rest) (header + widths (layout f .fields)) ≤ longestMessage
-
-longest-le : (property : ℕ) → Short (Form.propertyText property)
-unfolding longest layout
-longest-le property =
-    ⊎-elim (λ (yes : eqb property 1 ≡ true). rw yes (omega arith)) (λ (no : eqb property 1 ≡ false). rw no (omega arith)) (which (eqb property 1))
-
-longest-text-le : (information : ℕ) → Short (Form.modeText information)
-unfolding longestModeText layout
-longest-text-le information =
-    ⊎-elim (λ (yes : eqb information 0 ≡ true). rw yes (omega arith)) (λ (no : eqb information 0 ≡ false). rw no (omega arith)) (which (eqb information 0))
-
-form-short : (f : Form) → Short f
-unfolding layout
-form-short Form.propertyCommand = omega arith
-form-short (Form.propertyText p) = longest-le p
-form-short (Form.propertyByte p) = omega arith
-form-short Form.propertyRssi = omega arith
-form-short Form.propertyVersion = omega arith
-form-short Form.propertyProtocol = omega arith
-form-short Form.propertyAddress = omega arith
-form-short Form.hubAction = omega arith
-form-short Form.alertCommand = omega arith
-form-short Form.alertUpdate = omega arith
-form-short Form.detached = omega arith
-form-short Form.attached = omega arith
-form-short Form.attachedVirtual = omega arith
-form-short Form.genericError = omega arith
-form-short Form.goIntoBootMode = omega arith
-form-short Form.lockMemory = omega arith
-form-short Form.lockStatusRequest = omega arith
-form-short Form.lockStatus = omega arith
-form-short Form.portInformationRequest = omega arith
-form-short Form.modeInformationRequest = omega arith
-form-short Form.inputFormatSetup = omega arith
-form-short Form.portModes = omega arith
-form-short Form.portCombinations = omega arith
-form-short (Form.modeText i) = longest-text-le i
-form-short Form.modeRange = omega arith
-form-short Form.modeMapping = omega arith
-form-short Form.modeBias = omega arith
-form-short Form.modeCapabilities = omega arith
-form-short Form.valueFormat = omega arith
-form-short Form.portValue = omega arith
-form-short Form.inputFormat = omega arith
-form-short Form.virtualDisconnect = omega arith
-form-short Form.virtualConnect = omega arith
-
-short : (f : Form) (n : ℕ) → fits (layout f .rest) (header + widths (layout f .fields)) n ≡ true → n ≤ longestMessage
-short f n e = omega (arith, fits-greatest (layout f .rest) (header + widths (layout f .fields)) n e, form-short f)
 
 not-else-encoded : (b : Bool) (n p : ℕ) (x : Encoded) (t : List ℕ) → cond b x (Encode'.refused n p) ≡ encoded t → (b ≡ true) × (x ≡ encoded t)
 not-else-encoded true n p x t e = (refl, e)
@@ -288,17 +223,17 @@ values-read way f vs opens t shape e = go (typeOf (code f) (types way)) refl e
     go none k g = let z : _≡_ {A = ℕ} 0 1 = cc in absurd (omega arith)
     go (some type) k g =
         let fs : List Field = layout f .fields in
-        let fo = followed (code f) (type .selectors) (type .selection) (leads way (code f) type k) f (header + type .selectors - 1) vs opens t g in
+        let fo = followed (code f) (selectors type) type (leads way (code f) type k) f (selectorsSize type - 1) vs opens t g in
         let fr = form-read f vs opens t shape (fo .form) in
         let body : List ℕ = fr .body in
         let u : List ℕ = framed (code f) body in
         let few : length t ≤ longestMessage = short f (length t) (fr .size) in
         let size : length t ≡ length u = ap length (fr .bytes) in
-        let room : type .selectors ≤ widths fs = narrow-widths (type .selectors) fs (fo .fit .1) in
-        let at : (i : ℕ) → i < type .selectors → getD u (header + i) 0 ≡ naturalAt vs i =
+        let room : selectors type ≤ widths fs = narrow-widths (selectors type) fs (fo .fit .1) in
+        let at : (i : ℕ) → i < selectors type → getD u (header + i) 0 ≡ naturalAt vs i =
         λ i h.
         sym (getD-drop header u i 0) ∙ sym (getD-take (widths fs) body i 0 (omega arith))
-        ∙ narrow-written (type .selectors) fs (fo .fit .1) header vs (take (widths fs) body) (fr .front-is .0) (fr .front-is .1) i h
+        ∙ narrow-written (selectors type) fs (fo .fit .1) header vs (take (widths fs) body) (fr .front-is .0) (fr .front-is .1) i h
         in
         let header-good : decode way u ≡ decodeWay way u =
         head way u (ne-eqb (length u) 0 (λ z. omega arith)) (le-ltb longestMessage (getD u 0 0) (omega (arith, fr .room))) (eq-eqb (getD u 0 0) (length u) (omega arith)) (le-ltb (length u) header (omega arith)) refl
@@ -399,4 +334,4 @@ written-short m opens t e = short (formOf m) (length t) (form-read (formOf m) (v
 pub form-accepted : (way : Way) (s : List ℕ) (f : Form) (vs : List Value) → decode way s ≡ accepted f vs → decodeForm f s ≡ accepted f vs
 form-accepted way s f vs e =
     let t = type-found way s f vs (headed way s f vs e .rest) in
-    chosen (getD s 2 0) (t .type .selectors) (t .type .selection) (leads way (getD s 2 0) (t .type) (t .found)) s f vs (t .rest) .form
+    chosen (getD s 2 0) (selectors (t .type)) (t .type) (leads way (getD s 2 0) (t .type) (t .found)) s f vs (t .rest) .form

@@ -8,17 +8,17 @@ use lib.Dec.{eqb, ltb}
 use lib.ListN.{length, getD}
 use Rattle.protocol.specs.Types.{MessageType, types, typeOf}
 use Rattle.protocol.specs.declared.Way.{Way}
-use Rattle.protocol.specs.Decode.{wrongSize, header, longestMessage, decodeSelection, decodeType, decodeTyped, decodeWay, decode}
+use Rattle.protocol.specs.Decode.{wrongSize, selectorsSize, header, longestMessage, decodeSelection, decodeType, decodeTyped, decodeWay, decode}
 
 -- too short for its selectors
-pub too-short : (t : MessageType) (s : List ℕ) → length s < header + t .selectors → decodeType t s ≡ wrongSize
+pub too-short : (t : MessageType) (s : List ℕ) → length s < selectorsSize t → decodeType t s ≡ wrongSize (selectorsSize t)
 unfolding decodeType
-too-short t s h = ap (λ (b : Bool). cond b wrongSize (decodeSelection (t .selection) s)) (lt-ltb (length s) (header + t .selectors) h)
+too-short t s h = ap (λ (b : Bool). cond b (wrongSize (selectorsSize t)) (decodeSelection t s)) (lt-ltb (length s) (selectorsSize t) h)
 
 -- long enough: the selection decides
-pub long-enough : (t : MessageType) (s : List ℕ) → header + t .selectors ≤ length s → decodeType t s ≡ decodeSelection (t .selection) s
+pub long-enough : (t : MessageType) (s : List ℕ) → selectorsSize t ≤ length s → decodeType t s ≡ decodeSelection t s
 unfolding decodeType
-long-enough t s h = ap (λ (b : Bool). cond b wrongSize (decodeSelection (t .selection) s)) (le-ltb (length s) (header + t .selectors) h)
+long-enough t s h = ap (λ (b : Bool). cond b (wrongSize (selectorsSize t)) (decodeSelection t s)) (le-ltb (length s) (selectorsSize t) h)
 
 -- the type byte is v
 pub typed : (way : Way) (s : List ℕ) (v : ℕ) → getD s 2 0 ≡ v → decodeWay way s ≡ decodeTyped (typeOf v (types way)) s

@@ -16,7 +16,7 @@ use Rattle.protocol.specs.Properties.{carries}
 use Rattle.protocol.specs.Field.{Field, number, highFirst, signed, float, fixed, Value, natural, integer, real, widths, values, readField, readFields}
 use Rattle.protocol.specs.Form
 use Rattle.protocol.specs.Form.{Form, layout, code}
-use Rattle.protocol.specs.Types.{Selection, always, select, MessageType, Row, payload, types, typeOf, hubProperties, hubActions, hubAlerts, hubAttachedIo, portInformation, portModeInformation, virtualPortSetup}
+use Rattle.protocol.specs.Types.{Selection, always, select, MessageType, Row, selectors, payload, types, typeOf, hubProperties, hubActions, hubAlerts, hubAttachedIo, portInformation, portModeInformation, virtualPortSetup}
 use Rattle.protocol.specs.Answer.{naturalAt}
 use Rattle.protocol.specs.Encode.{lowFirst, holds, fieldBytes, wrote, writeFields}
 use Rattle.protocol.specs.declared.Way.{Way}
@@ -131,7 +131,7 @@ payload-fits property =
     (either-fits 1 2 (eqb property 10) Form.propertyProtocol f1 (refl, (refl, (refl, tt)))
     (either-fits 1 2 (oneOf (13 ∷ 14 ∷ []) property) Form.propertyAddress (Form.propertyByte property) (refl, (refl, (refl, tt))) (refl, (refl, (refl, tt)))))))
 
-property-leads : (way : Way) → Leads 1 2 (hubProperties way .selection)
+property-leads : (way : Way) → Leads 1 2 (hubProperties way)
 unfolding hubProperties layout
 property-leads way = (
   omega arith,
@@ -142,17 +142,17 @@ property-leads way = (
   ),
 )
 
-action-leads : (way : Way) → Leads 2 (hubActions way .selectors) (hubActions way .selection)
+action-leads : (way : Way) → Leads 2 (selectors (hubActions way)) (hubActions way)
 unfolding hubActions layout
 action-leads Down = (omega arith, λ action. (refl, (refl, tt)))
 action-leads Up = (omega arith, λ action. (refl, (refl, tt)))
 
-alert-leads : (way : Way) → Leads 3 (hubAlerts way .selectors) (hubAlerts way .selection)
+alert-leads : (way : Way) → Leads 3 (selectors (hubAlerts way)) (hubAlerts way)
 unfolding hubAlerts layout
 alert-leads Down = (omega arith, λ alert. (omega arith, λ operation. (refl, (refl, (refl, tt)))))
 alert-leads Up = (omega arith, λ alert. (omega arith, λ operation. (refl, (refl, (refl, tt)))))
 
-attached-leads : Leads 4 2 (hubAttachedIo .selection)
+attached-leads : Leads 4 2 hubAttachedIo
 unfolding hubAttachedIo layout
 attached-leads = (
   omega arith,
@@ -161,12 +161,12 @@ attached-leads = (
       (either-fits 4 2 (eqb event 1) Form.attached Form.attachedVirtual (refl, (refl, (refl, tt))) (refl, (refl, (refl, tt)))),
 )
 
-information-leads : Leads 0x43 2 (portInformation .selection)
+information-leads : Leads 0x43 2 portInformation
 unfolding portInformation layout
 information-leads =
     (omega arith, λ information. either-fits 0x43 2 (eqb information 1) Form.portModes Form.portCombinations (refl, (refl, (refl, tt))) (refl, (refl, (refl, tt))))
 
-mode-leads : Leads 0x44 3 (portModeInformation .selection)
+mode-leads : Leads 0x44 3 portModeInformation
 unfolding portModeInformation layout
 mode-leads = (
   omega arith,
@@ -182,7 +182,7 @@ mode-leads = (
       (either-fits 0x44 3 (eqb information 8) Form.modeCapabilities Form.valueFormat (refl, (refl, (refl, (refl, tt)))) (refl, (refl, (refl, (refl, tt)))))))),
 )
 
-virtual-leads : Leads 0x61 1 (virtualPortSetup .selection)
+virtual-leads : Leads 0x61 1 virtualPortSetup
 unfolding virtualPortSetup layout
 virtual-leads = (omega arith, λ sub. either-fits 0x61 1 (eqb sub 0) Form.virtualDisconnect Form.virtualConnect (refl, (refl, tt)) (refl, (refl, tt)))
 
@@ -204,7 +204,7 @@ found P (r ∷ rs) all c t e =
     (which (eqb c (r .code)))
 
 abbrev TypeLeads : ℕ → MessageType → Type 0
-TypeLeads c t = Leads c (t .selectors) (t .selection)
+TypeLeads c t = Leads c (selectors t) t
 
 all-lead : (way : Way) → Every TypeLeads (types way)
 unfolding types hubProperties hubAttachedIo portInformation portModeInformation virtualPortSetup
@@ -214,5 +214,5 @@ all-lead Up =
     (property-leads Up, (action-leads Up, (alert-leads Up, (attached-leads, ((refl, tt), ((refl, tt), (information-leads, (mode-leads, ((refl, tt), ((refl, tt), tt))))))))))
 
 -- every type leads to forms of its own type byte
-pub leads : (way : Way) (c : ℕ) (t : MessageType) → typeOf c (types way) ≡ some t → Leads c (t .selectors) (t .selection)
+pub leads : (way : Way) (c : ℕ) (t : MessageType) → typeOf c (types way) ≡ some t → Leads c (selectors t) t
 leads way c t e = found TypeLeads (types way) (all-lead way) c t e

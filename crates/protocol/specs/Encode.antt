@@ -14,7 +14,7 @@ use Rattle.protocol.specs.Rule.{any, between}
 use Rattle.protocol.specs.Field.{Field, number, highFirst, signed, float, fixed, Value, natural, integer, real, width, widths}
 use Rattle.protocol.specs.Form.{Form, code, sameForm, Rest, nothing, openRun, words, Layout, layout}
 use Rattle.protocol.specs.Types.{Selection, always, select, MessageType, types, typeOf}
-use Rattle.protocol.specs.Decode.{header}
+use Rattle.protocol.specs.Decode.{header, fieldsEnd, smallestSize, selectorsSize}
 use Rattle.protocol.specs.Answer.{formOf, valuesOf, naturalAt}
 use Rattle.protocol.specs.declared.Way.{Way}
 use Rattle.protocol.specs.declared.Message.{Message}
@@ -158,8 +158,8 @@ unfoldable pub encodeForm : Form → List Value → List ℕ → Encoded
 encodeForm f vs opens =
     let l = layout f in
     cond (restFits (l .rest) (afterFields (l .fields) vs) (length opens))
-    (closed f (thenRest (header + widths (l .fields)) (l .rest) opens (writeFields header (l .fields) vs)))
-    (refused 6 0)
+    (closed f (thenRest (fieldsEnd f) (l .rest) opens (writeFields header (l .fields) vs)))
+    (refused 6 (smallestSize f))
 
 -- the selectors from left to right, which stand among the values by their offsets; where they lead to another form than
 -- the message's, the last of them, at a place, is outside its list
@@ -171,7 +171,7 @@ encodeSelection (select offset rule next) f last vs opens =
 
 abbrev pub encodeTyped : Option MessageType → Form → List Value → List ℕ → Encoded
 encodeTyped none f vs opens = refused 5 2
-encodeTyped (some t) f vs opens = encodeSelection (t .selection) f (header + t .selectors - 1) vs opens
+encodeTyped (some t) f vs opens = encodeSelection t f (selectorsSize t - 1) vs opens
 
 -- a form with its values and its open bytes
 unfoldable pub encodeValues : Way → Form → List Value → List ℕ → Encoded

@@ -1,4 +1,4 @@
--- The bench examples of document 01 that concern reading, as one table.
+-- The bench examples of document 01 that concern reading, and those of sizes that are wanted, as one table.
 use Prim.Native.Nat.{ℕ}
 use mathlib.Core.Path.{_≡_}
 use mathlib.Core.List.{List, [], _∷_, map}
@@ -22,7 +22,7 @@ down s a = record { way = Down; bytes = s; answer = a }
 abbrev up : List ℕ → Answer → Example
 up s a = record { way = Up; bytes = s; answer = a }
 
--- the starred examples, and those of the others that concern reading
+-- the starred examples, those of the others that concern reading, and sizes
 abbrev pub examples : List Example
 examples =
     down [] (refused 1 0)
@@ -31,9 +31,9 @@ examples =
     ∷ down (0x03 ∷ 0x01 ∷ 0x12 ∷ []) (refused 4 1)
     ∷ down (0x03 ∷ 0x00 ∷ 0x12 ∷ []) (accepted Form.lockStatusRequest [])
     ∷ up (0x03 ∷ 0x00 ∷ 0x12 ∷ []) (refused 5 2)
-    ∷ down (0x03 ∷ 0x00 ∷ 0x02 ∷ []) (refused 6 0)
+    ∷ down (0x03 ∷ 0x00 ∷ 0x02 ∷ []) (refused 6 4)
     ∷ down (0x04 ∷ 0x00 ∷ 0x02 ∷ 0x07 ∷ []) (refused 7 3)
-    ∷ down (0x05 ∷ 0x00 ∷ 0x02 ∷ 0x01 ∷ 0x00 ∷ []) (refused 6 0)
+    ∷ down (0x05 ∷ 0x00 ∷ 0x02 ∷ 0x01 ∷ 0x00 ∷ []) (refused 6 4)
     ∷ down (0x05 ∷ 0x00 ∷ 0x01 ∷ 0x02 ∷ 0x05 ∷ []) (accepted Form.propertyCommand (natural 2 ∷ natural 5 ∷ []))
     ∷ down (0x05 ∷ 0x00 ∷ 0x01 ∷ 0x03 ∷ 0x02 ∷ []) (refused 7 4)
     ∷ down (0x0C ∷ 0x00 ∷ 0x10 ∷ 0x4C ∷ 0x50 ∷ 0x46 ∷ 0x32 ∷ 0x2D ∷ 0x42 ∷ 0x6F ∷ 0x6F ∷ 0x74 ∷ []) (accepted Form.goIntoBootMode [])
@@ -42,6 +42,24 @@ examples =
     ∷ up (0x0E ∷ 0x00 ∷ 0x44 ∷ 0x00 ∷ 0x00 ∷ 0x01 ∷ 0x00 ∷ 0x00 ∷ 0x00 ∷ 0x00 ∷ 0x00 ∷ 0x00 ∷ 0x48 ∷ 0x43 ∷ [])
     (accepted Form.modeRange (natural 0 ∷ natural 0 ∷ natural 1 ∷ real (fin false 0 (pos 0)) ∷ real (fin false 25 (pos 3)) ∷ []))
     ∷ up (0x0E ∷ 0x00 ∷ 0x44 ∷ 0x00 ∷ 0x00 ∷ 0x01 ∷ 0x00 ∷ 0x00 ∷ 0x00 ∷ 0x00 ∷ 0x00 ∷ 0x00 ∷ 0x80 ∷ 0x7F ∷ []) (refused 7 10)
+    -- too short for the selectors: hub properties, alerts, attachments, 43, 44 and virtual ports
+    ∷ down (0x03 ∷ 0x00 ∷ 0x01 ∷ []) (refused 6 5)
+    ∷ down (0x04 ∷ 0x00 ∷ 0x01 ∷ 0x63 ∷ []) (refused 6 5)
+    ∷ up (0x04 ∷ 0x00 ∷ 0x03 ∷ 0x63 ∷ []) (refused 6 5)
+    ∷ up (0x04 ∷ 0x00 ∷ 0x04 ∷ 0x00 ∷ []) (refused 6 5)
+    ∷ up (0x04 ∷ 0x00 ∷ 0x43 ∷ 0x00 ∷ []) (refused 6 5)
+    ∷ up (0x05 ∷ 0x00 ∷ 0x44 ∷ 0x00 ∷ 0x63 ∷ []) (refused 6 6)
+    ∷ down (0x03 ∷ 0x00 ∷ 0x61 ∷ []) (refused 6 4)
+    -- a name without a byte and one of twelve, a list of six bytes and one of eight, a value without a byte, a connect of five bytes
+    ∷ up (0x06 ∷ 0x00 ∷ 0x44 ∷ 0x00 ∷ 0x00 ∷ 0x00 ∷ []) (refused 6 7)
+    ∷ up (0x12 ∷ 0x00 ∷ 0x44 ∷ 0x01 ∷ 0x02 ∷ 0x00 ∷ 0x41 ∷ 0x42 ∷ 0x43 ∷ 0x44 ∷ 0x45 ∷ 0x46 ∷ 0x47 ∷ 0x48 ∷ 0x49 ∷ 0x4A ∷ 0x4B ∷ 0x4C ∷ []) (refused 6 7)
+    ∷ up (0x06 ∷ 0x00 ∷ 0x43 ∷ 0x00 ∷ 0x02 ∷ 0x16 ∷ []) (refused 6 7)
+    ∷ up (0x08 ∷ 0x00 ∷ 0x43 ∷ 0x00 ∷ 0x02 ∷ 0x16 ∷ 0x00 ∷ 0x16 ∷ []) (refused 6 7)
+    ∷ up (0x04 ∷ 0x00 ∷ 0x45 ∷ 0x00 ∷ []) (refused 6 5)
+    ∷ down (0x05 ∷ 0x00 ∷ 0x61 ∷ 0x01 ∷ 0x00 ∷ []) (refused 6 6)
+    -- a detachment is shorter than an attachment: the event says which size is wanted
+    ∷ up (0x06 ∷ 0x00 ∷ 0x04 ∷ 0x00 ∷ 0x00 ∷ 0x00 ∷ []) (refused 6 5)
+    ∷ up (0x06 ∷ 0x00 ∷ 0x04 ∷ 0x00 ∷ 0x01 ∷ 0x00 ∷ []) (refused 6 15)
     ∷ []
 
 -- what the definitions say of every example, and what document 01 says: one statement, `examples-hold` in proofs/Examples.antt

@@ -298,11 +298,17 @@ layout inputFormat = only inputSetup
 layout virtualDisconnect = only (selector ∷ port ∷ [])
 layout virtualConnect = only (selector ∷ port ∷ port ∷ [])
 
+-- the least bytes that follow the fields: of words one
+abbrev pub leastRest : Rest → ℕ
+leastRest nothing = 0
+leastRest (openRun least most) = least
+leastRest (words most) = 2
+
 -- whether a whole size fits, where the fields end at a place
 abbrev pub fits : Rest → ℕ → ℕ → Bool
 fits nothing end size = eqb size end
 fits (openRun least most) end size = leb (end + least) size && leb size (end + most)
-fits (words most) end size = leb (end + 2) size && leb size (end + 2 * most) && eqb ((size - end) % 2) 0
+fits (words most) end size = leb (end + leastRest (words most)) size && leb size (end + 2 * most) && eqb ((size - end) % 2) 0
 
 -- the u16 at index i of those that start at a place, 0 from the count on
 unfoldable pub word : List ℕ → ℕ → ℕ → ℕ → ℕ

@@ -6,6 +6,7 @@ pub mod Properties
 pub mod Form
 pub mod Types
 pub mod Decode
+pub mod Sizes
 pub mod Answer
 pub mod Encode
 pub mod RoundTrip

@@ -1,6 +1,6 @@
 -- The message types of document 01's table: which way each goes, and how its selectors choose the form.
 -- Selectors stand by their offset after the header, so that place 3 is offset 0.
-use Prim.Native.Nat.{ℕ}
+use Prim.Native.Nat.{ℕ, _+_}
 use mathlib.Core.Bool.{cond}
 use mathlib.Core.List.{List, [], _∷_}
 use mathlib.Core.Option.{Option, none, some}
@@ -17,10 +17,18 @@ pub data Selection : Type 0 where
   -- the byte at an offset, its list, and what each value leads to
   select : ℕ → Rule → (ℕ → Selection) → Selection
 
--- a type: the offset past its last selector, and its selection
-pub record MessageType : Type 0 where
-  pub selectors : ℕ
-  pub selection : Selection
+-- a type: how its selectors choose the form
+abbrev pub MessageType : Type 0
+MessageType = Selection
+
+-- The offset past the last selector. Where the next one stands does not depend on a value (`SelectorsHeld` in specs/Sizes.antt),
+-- so any will do here.
+abbrev pastSelectors : ℕ → Selection → ℕ
+pastSelectors past (always f) = past
+pastSelectors past (select offset rule next) = pastSelectors (offset + 1) (next 0)
+
+abbrev pub selectors : MessageType → ℕ
+selectors t = pastSelectors 0 t
 
 -- the form of a property's payload
 unfoldable pub payload : ℕ → Form
@@ -31,17 +39,14 @@ payload property =
     (cond (eqb property 10) Form.propertyProtocol (cond (oneOf (13 ∷ 14 ∷ []) property) Form.propertyAddress (Form.propertyByte property)))))
 
 abbrev pub plain : Form → MessageType
-plain f = record { selectors = 0; selection = always f }
+plain f = always f
 
 -- 01: [property 3] [operation 4]
 unfoldable pub hubProperties : Way → MessageType
-hubProperties way = record {
-  selectors = 2;
-  selection =
-      select 0 (between 1 15) λ property.
-      select 1 (allowed way property) λ operation.
-      always (cond (carries operation) (payload property) Form.propertyCommand);
-}
+hubProperties way =
+    select 0 (between 1 15) λ property.
+    select 1 (allowed way property) λ operation.
+    always (cond (carries operation) (payload property) Form.propertyCommand)
 
 unfoldable pub downAction : Rule
 downAction n = either (between 0x01 0x06) (oneOf (0x2F ∷ [])) n
@@ -51,55 +56,37 @@ upAction n = between 0x30 0x32 n
 
 -- 02: [action 3]
 unfoldable pub hubActions : Way → MessageType
-hubActions Down = record { selectors = 1; selection = select 0 downAction λ action. always Form.hubAction }
-hubActions Up = record { selectors = 1; selection = select 0 upAction λ action. always Form.hubAction }
+hubActions Down = select 0 downAction λ action. always Form.hubAction
+hubActions Up = select 0 upAction λ action. always Form.hubAction
 
 -- 03: [alert 3] [operation 4]
 unfoldable pub hubAlerts : Way → MessageType
-hubAlerts Down = record {
-  selectors = 2;
-  selection = select 0 (between 1 4) λ alert. select 1 (between 1 3) λ operation. always Form.alertCommand;
-}
-hubAlerts Up = record {
-  selectors = 2;
-  selection = select 0 (between 1 4) λ alert. select 1 (oneOf (4 ∷ [])) λ operation. always Form.alertUpdate;
-}
+hubAlerts Down = select 0 (between 1 4) λ alert. select 1 (between 1 3) λ operation. always Form.alertCommand
+hubAlerts Up = select 0 (between 1 4) λ alert. select 1 (oneOf (4 ∷ [])) λ operation. always Form.alertUpdate
 
 -- 04: port, [event 4]
 unfoldable pub hubAttachedIo : MessageType
-hubAttachedIo = record {
-  selectors = 2;
-  selection =
-      select 1 (oneOf (0 ∷ 1 ∷ 2 ∷ [])) λ event.
-      always (cond (eqb event 0) Form.detached (cond (eqb event 1) Form.attached Form.attachedVirtual));
-}
+hubAttachedIo =
+    select 1 (oneOf (0 ∷ 1 ∷ 2 ∷ [])) λ event.
+    always (cond (eqb event 0) Form.detached (cond (eqb event 1) Form.attached Form.attachedVirtual))
 
 -- 43: port, [type 4]
 unfoldable pub portInformation : MessageType
-portInformation = record {
-  selectors = 2;
-  selection = select 1 (oneOf (1 ∷ 2 ∷ [])) λ information. always (cond (eqb information 1) Form.portModes Form.portCombinations);
-}
+portInformation = select 1 (oneOf (1 ∷ 2 ∷ [])) λ information. always (cond (eqb information 1) Form.portModes Form.portCombinations)
 
 -- 44: port, mode, [type 5]
 unfoldable pub portModeInformation : MessageType
-portModeInformation = record {
-  selectors = 3;
-  selection =
-      select 2 (oneOf (0 ∷ 1 ∷ 2 ∷ 3 ∷ 4 ∷ 5 ∷ 7 ∷ 8 ∷ 0x80 ∷ [])) λ information.
-      always
-      (cond (oneOf (0 ∷ 4 ∷ []) information) (Form.modeText information)
-      (cond (oneOf (1 ∷ 2 ∷ 3 ∷ []) information) Form.modeRange
-      (cond (eqb information 5) Form.modeMapping
-      (cond (eqb information 7) Form.modeBias (cond (eqb information 8) Form.modeCapabilities Form.valueFormat)))));
-}
+portModeInformation =
+    select 2 (oneOf (0 ∷ 1 ∷ 2 ∷ 3 ∷ 4 ∷ 5 ∷ 7 ∷ 8 ∷ 0x80 ∷ [])) λ information.
+    always
+    (cond (oneOf (0 ∷ 4 ∷ []) information) (Form.modeText information)
+    (cond (oneOf (1 ∷ 2 ∷ 3 ∷ []) information) Form.modeRange
+    (cond (eqb information 5) Form.modeMapping
+    (cond (eqb information 7) Form.modeBias (cond (eqb information 8) Form.modeCapabilities Form.valueFormat)))))
 
 -- 61: [sub 3]
 unfoldable pub virtualPortSetup : MessageType
-virtualPortSetup = record {
-  selectors = 1;
-  selection = select 0 (oneOf (0 ∷ 1 ∷ [])) λ sub. always (cond (eqb sub 0) Form.virtualDisconnect Form.virtualConnect);
-}
+virtualPortSetup = select 0 (oneOf (0 ∷ 1 ∷ [])) λ sub. always (cond (eqb sub 0) Form.virtualDisconnect Form.virtualConnect)
 
 -- a type byte and its type
 pub record Row : Type 0 where

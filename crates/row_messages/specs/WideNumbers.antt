@@ -29,7 +29,7 @@ NoSelector (select offset rule next) = (rule (inPlaceOfWider 1) ≡ false) × ((
 
 abbrev pub NoSelectors : List Row → Type 0
 NoSelectors [] = Unit {0}
-NoSelectors (r ∷ rs) = NoSelector (r .type .selection) × NoSelectors rs
+NoSelectors (r ∷ rs) = NoSelector (r .type) × NoSelectors rs
 
 abbrev pub WiderIsOutside : Type 0
 WiderIsOutside = ((f : Form) → AllApart (layout f .fields)) × ((way : Way) → NoSelectors (types way))

@@ -14,7 +14,7 @@ use Rattle.protocol.specs.Rule.{any, upTo, between}
 use Rattle.protocol.specs.Field.{Field, number, highFirst, signed, float, fixed, Value, natural, integer, real, width, widths}
 use Rattle.protocol.specs.Form
 use Rattle.protocol.specs.Form.{Form, informationType, alertStatus, bootString, lockString, Rest, nothing, openRun, words, layout, code}
-use Rattle.protocol.specs.Decode.{header}
+use Rattle.protocol.specs.Decode.{header, smallestSize}
 use Rattle.protocol.specs.Answer.{formOf, valuesOf}
 use Rattle.protocol.specs.Encode.{Encoded, encoded, refused, good, bad, taken, holds, fieldBytes, lowFirst, Written, outside, wrote, before, writeFields, restFits, thenRest, framed, closed, afterField, afterFields, frontValue, frontValues, encodeForm}
 use Rattle.writer.specs.Writing.{limited, answerOf, answered, lentAfter}
@@ -292,7 +292,7 @@ by-slots (Message'.VirtualConnect a b) opens slots x right = plain-slots (Messag
 
 -- ---- the answers
 
-pub wrong-size : (m : Message) (opens : List ℕ) → openFits m (length opens) ≡ false → encodeForm (formOf m) (valuesOf m) opens ≡ refused 6 0
+pub wrong-size : (m : Message) (opens : List ℕ) → openFits m (length opens) ≡ false → encodeForm (formOf m) (valuesOf m) opens ≡ refused 6 (smallestSize (formOf m))
 unfolding encodeForm openFits
 wrong-size m opens e = rw e
 

@@ -4,3 +4,5 @@ pub mod Copying
 pub mod Cases
 pub mod Walk
 pub mod Whole
+pub mod Rests
+pub mod Sizes

@@ -17,7 +17,8 @@ use slots::width;
 ghost use mathlib.Core.Path.{_≡_};
 ghost use Prim.Native.Nat.{_+_, _≤_};
 ghost use lib.ListN.{length};
-ghost use Rattle.protocol.specs.Decode.{longestMessage};
+ghost use Rattle.protocol.specs.Answer.{formOf};
+ghost use Rattle.protocol.specs.Decode.{longestMessage, smallestSize};
 ghost use Rattle.protocol.specs.Encode.{encode, encoded};
 ghost use Rattle.protocol.specs.Overwrite.{overwrite};
 ghost use Rattle.slots.specs.Slot.{Slotted};
@@ -91,6 +92,32 @@ fn put_message(out: &mut [u8], slots: [Slot; 11], open: &[u8]) -> Written
     Written::Length(size as u16)
 }
 
+// The smallest size of a message's form: its fields and the least that follows them. A list (43) has
+// one entry.
+fn smallest_size(m: Message, slots: [Slot; 11]) -> u16
+    requires { ⌜ Slotted m slots ⌝ }
+    ensures { λ r. ⌜ r ≡ smallestSize (formOf m) ⌝ }
+{
+    let end = (2 + widths(slots)) as u16;
+    match m {
+        Message::PropertyText {
+            property: _,
+            operation: _,
+        } => end + 1,
+        Message::ModeText {
+            port: _,
+            mode: _,
+            information: _,
+        } => end + 1,
+        Message::PortValue { port: _ } => end + 1,
+        Message::PortCombinations {
+            port: _,
+            combinations: _,
+        } => 7,
+        _ => end,
+    }
+}
+
 // Refusals 5, 7, 6 and 7 of a message with these slots.
 fn judged(m: Message, way: Way, open: &[u8], slots: [Slot; 11]) -> Choice
     requires { ⌜ Slotted m slots ⌝ }
@@ -102,7 +129,7 @@ fn judged(m: Message, way: Way, open: &[u8], slots: [Slot; 11]) -> Choice
             if !open_fits(m, open.len()) {
                 return Choice::Refused {
                     number: 6,
-                    place: 0,
+                    place: smallest_size(m, slots),
                 };
             }
             let place = first_outside(slots);

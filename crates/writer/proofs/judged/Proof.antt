@@ -20,10 +20,17 @@ enum-told c = search needs
 open-fits-requires : tie.Need-open-fits-requires
 open-fits-requires c κs = search needs
 
+smallest-size-requires : tie.Need-smallest-size-requires
+smallest-size-requires c κs = c .before .before .before .before .before .before .pre
+
 returns : tie.Need-returns
 returns c =
-    let a = c .before .before .before .before .before .before .args in
-    chosen (a .way) (a .m) (a .«open» .now) _ (c .before .before .before .before .selected .ensures) (c .before .before .enum-told .given .1) ∙ wrong-size (a .m) (a .«open» .now) (sym (c .before .open-fits .ensures) ∙ not-true _ (c .if1 .taken))
+    let c1 = c .before .before .before in
+    let c2 = c1 .before .before in
+    let a = c2 .before .before .args in
+    chosen (a .way) (a .m) (a .«open» .now) _ (c2 .selected .ensures) (c1 .enum-told .given .1)
+    ∙ wrong-size (a .m) (a .«open» .now) (sym (c .before .before .open-fits .ensures) ∙ not-true _ (c .before .if1 .taken))
+    ∙ ap (refused 6) (sym (c .smallest-size .ensures))
 
 first-outside-requires : tie.Need-first-outside-requires
 first-outside-requires c κs =
@@ -54,6 +61,7 @@ judged-spec =
     enum-known-number
     enum-told
     open-fits-requires
+    smallest-size-requires
     returns
     first-outside-requires
     returns-2

@@ -1,0 +1,99 @@
+use Prim.Native.Nat.{_+_}
+use native.Mathlib.Nat.{add-zero}
+use mathlib.Core.Path.{refl, sym, _∙_, ap}
+use Rattle.protocol.specs.Form.{nothing, layout}
+use Rattle.protocol.specs.Answer.{formOf}
+use Rattle.protocol.specs.Decode.{smallestSize}
+use Rattle.protocol.specs.declared.Message.{Message}
+use Rattle.writer.specs.Slots.{typePlace}
+use Rattle.writer.proofs.Rests.{nothing-follows}
+use Rattle.writer.proofs.Sizes.{smallest-is}
+use borrow.Author.Needs.{needs}
+use Rattle.writer.proofs.smallest_size.Statement.{statement}
+use Rattle.writer.proofs.smallest_size.Tie as tie
+
+widths-requires : tie.Need-widths-requires
+widths-requires c κs = search needs
+
+add-end : tie.Need-add-end
+add-end c = search needs
+
+cast-end : tie.Need-cast-end
+cast-end c = search needs
+
+enum-told : tie.Need-enum-told
+enum-told c = search needs
+
+add-result : tie.Need-add-result
+add-result c = search needs
+
+enum-told-2 : tie.Need-enum-told-2
+enum-told-2 c = search needs
+
+add-result-2 : tie.Need-add-result-2
+add-result-2 c = search needs
+
+enum-told-3 : tie.Need-enum-told-3
+enum-told-3 c = search needs
+
+add-result-3 : tie.Need-add-result-3
+add-result-3 c = search needs
+
+enum-told-4 : tie.Need-enum-told-4
+enum-told-4 c = search needs
+
+returns : tie.Need-returns
+unfolding layout
+returns c =
+    let start = c .before .before .before in
+    let widths = c .before .before .widths in
+    smallest-is (start .args .m) (start .args .slots) (start .pre) (widths .result) (widths .ensures .0) _
+    (ap (λ (m : Message). layout (formOf m) .rest) (c .enum-told .given .1)) (λ vs. refl)
+
+returns-2 : tie.Need-returns-2
+unfolding layout
+returns-2 c =
+    let start = c .before .before .before in
+    let widths = c .before .before .widths in
+    smallest-is (start .args .m) (start .args .slots) (start .pre) (widths .result) (widths .ensures .0) _
+    (ap (λ (m : Message). layout (formOf m) .rest) (c .enum-told2 .given .1)) (λ vs. refl)
+
+returns-3 : tie.Need-returns-3
+unfolding layout
+returns-3 c =
+    let start = c .before .before .before in
+    let widths = c .before .before .widths in
+    smallest-is (start .args .m) (start .args .slots) (start .pre) (widths .result) (widths .ensures .0) _
+    (ap (λ (m : Message). layout (formOf m) .rest) (c .enum-told3 .given .1)) (λ vs. refl)
+
+returns-4 : tie.Need-returns-4
+unfolding layout
+returns-4 c = sym (ap (λ (m : Message). smallestSize (formOf m)) (c .enum-told4 .given .1))
+
+returns-5 : tie.Need-returns-5
+returns-5 c =
+    let start = c .before .before in
+    let widths = c .before .widths in
+    sym (add-zero (typePlace + widths .result))
+    ∙ smallest-is (start .args .m) (start .args .slots) (start .pre) (widths .result) (widths .ensures .0) nothing
+    (nothing-follows (start .args .m) (c .match .keys5)) (λ vs. refl)
+
+pub smallest-size-spec : {M : Type 1} → statement M
+smallest-size-spec =
+    tie.close
+    (tie.spec
+    widths-requires
+    add-end
+    cast-end
+    enum-told
+    add-result
+    enum-told-2
+    add-result-2
+    enum-told-3
+    add-result-3
+    enum-told-4
+    returns
+    returns-2
+    returns-3
+    returns-4
+    returns-5)
