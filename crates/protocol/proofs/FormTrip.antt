@@ -118,7 +118,7 @@ was-read f s vs e =
     let a : valuesOrRefusal f x ≡ accepted f vs = rw yes at e in
     record { size = yes; both = both-read _ _ vs (values-accepted f x vs a) })
     (λ (no : fits (layout f .rest) end (length s) ≡ false).
-    let a : wrongSize (smallestSize f) ≡ accepted f vs = rw no at e in
+    let a : wrongSize _ ≡ accepted f vs = rw no at e in
     let z : _≡_ {A = ℕ} 0 1 = cc in absurd (omega arith))
     (which (fits (layout f .rest) end (length s)))
 
@@ -244,7 +244,7 @@ was-written f vs opens t e =
     let j = joined f end r opens (writeFields header fs vs) t (rw yes at e) in
     record { right = yes; front = j .front; left = j .left; front-is = j .front-is; back = j .back; unused = j .unused; back-is = j .back-is; bytes = j .bytes })
     (λ (no : restFits r (afterFields fs vs) (length opens) ≡ false).
-    let a : Encode'.refused 6 (smallestSize f) ≡ encoded t = rw no at e in
+    let a : Encode'.refused 6 _ ≡ encoded t = rw no at e in
     let z : _≡_ {A = ℕ} 0 1 = cc in absurd (omega arith))
     (which (restFits r (afterFields fs vs) (length opens)))
 

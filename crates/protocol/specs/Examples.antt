@@ -1,13 +1,19 @@
--- The bench examples of document 01 that concern reading, and those of sizes that are wanted, as one table.
+-- The bench examples of document 01 that concern reading, and those of sizes that are wanted, as one table; and sizes in writing.
 use Prim.Native.Nat.{ℕ}
 use mathlib.Core.Path.{_≡_}
 use mathlib.Core.List.{List, [], _∷_, map}
 use lib.Ieee.{fin}
 use lib.IntN.{pos}
 use mathlib.Core.Bool.{false}
+use lib.ListN.{replicate}
 use Rattle.protocol.specs.Field.{natural, real}
 use Rattle.protocol.specs.Form
 use Rattle.protocol.specs.Decode.{Answer, refused, accepted, decode}
+use Rattle.protocol.specs.Encode as Encode
+use Rattle.protocol.specs.Encode.{Encoded, encoded, encode}
+use Rattle.protocol.specs.declared.Combinations.{Combinations}
+use Rattle.protocol.specs.declared.Message.{Message}
+use Rattle.protocol.specs.declared.Message.the-variants as Message'
 use Rattle.protocol.specs.declared.Way.{Way}
 use Rattle.protocol.specs.declared.Way.the-variants.{Down, Up}
 
@@ -68,3 +74,42 @@ read e = decode (e .way) (e .bytes)
 
 abbrev pub ExamplesHold : Type 0
 ExamplesHold = map read examples ≡ map (λ e. e .answer) examples
+
+-- ---- sizes in writing
+
+pub record Writing : Type 0 where
+  pub way : Way
+  pub message : Message
+  pub opens : List ℕ
+  pub answer : Encoded
+
+abbrev writing : Way → Message → List ℕ → Encoded → Writing
+writing way m opens a = record { way = way; message = m; opens = opens; answer = a }
+
+abbrev counted : ℕ → Combinations
+counted n = record { count = n; entry0 = 0x16; entry1 = 0; entry2 = 0; entry3 = 0; entry4 = 0; entry5 = 0; entry6 = 0; entry7 = 0 }
+
+abbrev pub writings : List Writing
+writings =
+    -- a second slice where there is none: the form's own size
+    writing Down Message'.LockStatusRequest (0x00 ∷ []) (Encode.refused 6 3)
+    ∷ writing Down Message'.GoIntoBootMode (0x00 ∷ []) (Encode.refused 6 12)
+    ∷ writing Up (Message'.Attached 0 0x26 (pos 0) (pos 0)) (0x00 ∷ []) (Encode.refused 6 15)
+    -- too few and too many open bytes: the smallest, before a mode that is outside its list
+    ∷ writing Down (Message'.PropertyText 1 1) [] (Encode.refused 6 6)
+    ∷ writing Down (Message'.PropertyText 1 1) (replicate 15 0x41) (Encode.refused 6 6)
+    ∷ writing Up (Message'.ModeText 0 16 0) [] (Encode.refused 6 7)
+    ∷ writing Up (Message'.PortValue 0) [] (Encode.refused 6 5)
+    ∷ writing Up (Message'.PortValue 0) (replicate 124 0) (Encode.refused 6 5)
+    -- a list without an entry, with nine, and with a second slice: that of one entry
+    ∷ writing Up (Message'.PortCombinations 0 (counted 0)) [] (Encode.refused 6 7)
+    ∷ writing Up (Message'.PortCombinations 0 (counted 9)) [] (Encode.refused 6 7)
+    ∷ writing Up (Message'.PortCombinations 0 (counted 2)) (0x00 ∷ []) (Encode.refused 6 7)
+    ∷ writing Up (Message'.PortCombinations 0 (counted 1)) [] (encoded (0x07 ∷ 0x00 ∷ 0x43 ∷ 0x00 ∷ 0x02 ∷ 0x16 ∷ 0x00 ∷ []))
+    ∷ []
+
+abbrev written : Writing → Encoded
+written w = encode (w .way) (w .message) (w .opens)
+
+abbrev pub WritingsHold : Type 0
+WritingsHold = map written writings ≡ map (λ w. w .answer) writings

@@ -48,10 +48,19 @@ examples =
     -- a mode before a delta that is too wide
     ∷ down 21 (0 ∷ 300 ∷ 4294967296 ∷ 0 ∷ []) [] (refused 7 4)
     ∷ down 21 (0 ∷ 2 ∷ 4294967296 ∷ 0 ∷ []) [] (refused 255 0)
-    ∷ down 21 (0 ∷ 2 ∷ 4294967296 ∷ 0 ∷ []) (0x01 ∷ []) (refused 6 0)
+    ∷ down 21 (0 ∷ 2 ∷ 4294967296 ∷ 0 ∷ []) (0x01 ∷ []) (refused 6 10)
     -- counts, and entries past them
-    ∷ up 23 (0 ∷ 2 ∷ 300 ∷ []) [] (refused 6 0)
-    ∷ up 23 (0 ∷ 2 ∷ 0 ∷ []) [] (refused 6 0)
+    ∷ up 23 (0 ∷ 2 ∷ 300 ∷ []) [] (refused 6 7)
+    ∷ up 23 (0 ∷ 2 ∷ 0 ∷ []) [] (refused 6 7)
+    ∷ up 23 (0 ∷ 2 ∷ 9 ∷ []) [] (refused 6 7)
+    ∷ up 23 (0 ∷ 2 ∷ 2 ∷ []) (0x01 ∷ []) (refused 6 7)
+    -- too few and too many open bytes, and any where there are none
+    ∷ up 24 (300 ∷ 300 ∷ 0 ∷ []) [] (refused 6 7)
+    ∷ up 24 (0 ∷ 0 ∷ 4 ∷ []) (0x41 ∷ 0x42 ∷ 0x43 ∷ 0x44 ∷ 0x45 ∷ 0x46 ∷ []) (refused 6 7)
+    ∷ up 30 (0 ∷ []) [] (refused 6 5)
+    ∷ down 2 (1 ∷ 1 ∷ []) [] (refused 6 6)
+    ∷ down 15 [] (0x4C ∷ []) (refused 6 12)
+    ∷ up 12 (0 ∷ 1 ∷ 38 ∷ 0 ∷ 0 ∷ []) (0x01 ∷ []) (refused 6 15)
     ∷ up 23 (0 ∷ 2 ∷ 1 ∷ 258 ∷ 18446744073709551615 ∷ []) [] (encoded (0x07 ∷ 0x00 ∷ 0x43 ∷ 0x00 ∷ 0x02 ∷ 0x02 ∷ 0x01 ∷ []))
     ∷ up 23 (0 ∷ 2 ∷ 2 ∷ 258 ∷ 65536 ∷ []) [] (refused 255 0)
     -- six bytes, and floats

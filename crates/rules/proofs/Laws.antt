@@ -10,8 +10,9 @@ use Rattle.rules.specs.Table.{Table, portsOfTable, remove, apply}
 use Rattle.rules.specs.Cells.{tableAt, sound}
 use Rattle.rules.specs.Answer.{Answer, refused, accepted}
 use Rattle.rules.specs.Effect.{Effect}
-use Rattle.rules.specs.Offer.{judgeEntry, offerByCells, appliedTo, cellsAfter}
-use Rattle.rules.specs.Laws.{EmptySound, StepKeepsSound, RefusedChangesNothing, FreedIsEmpty, LowestPlace}
+use Rattle.rules.specs.Datasets.{allDatasets}
+use Rattle.rules.specs.Offer.{judgeEntry, offerByCells, appliedTo, cellsAfter, datasetMessage, datasetByCells}
+use Rattle.rules.specs.Laws.{EmptySound, StepKeepsSound, RefusedChangesNothing, ReadingRefused, FreedIsEmpty, LowestPlace}
 use Rattle.rules.proofs.Sound.{Sound}
 use Rattle.rules.proofs.CellsSound as CellsSound
 use Rattle.rules.proofs.Formed.{formed-sound}
@@ -37,6 +38,10 @@ step-keeps-sound cells e b s = rw s (go (judgeEntry (portsOfTable (tableAt cells
 pub refused-changes-nothing : RefusedChangesNothing
 unfolding cellsAfter
 refused-changes-nothing cells e n place k = ap (appliedTo cells) k
+
+pub reading-refused : ReadingRefused
+unfolding offerByCells judgeEntry datasetByCells datasetMessage allDatasets
+reading-refused cells s e n place k = (rw (s, k), (λ (i : ℕ). rw (s, k)), rw (s, k))
 
 pub freed-is-empty : FreedIsEmpty
 freed-is-empty port r t e = (ap (λ (b : Bool). cond b none (some r) ∷ remove port t) (eq-eqb (r .port) port e), refl)

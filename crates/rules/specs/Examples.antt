@@ -269,10 +269,13 @@ sixteenPorts =
     ∷ accepts (sixteen ++ (detached 3 ∷ [])) (attached 16)
     ∷ []
 
--- 15 to 18
+-- 6 with the size that is wanted, before 10 and 14; 15 to 18
 abbrev readings : List Example
 readings =
-    refuses (attached 0 ∷ answered 2 1 1 ∷ []) five 15
+    offers motor (value []) (refused 6 5)
+    ∷ offers [] (down (0x09 ∷ 0x00 ∷ 0x41 ∷ 0x00 ∷ 0x02 ∷ 0x01 ∷ 0x00 ∷ 0x00 ∷ 0x00 ∷ [])) (refused 6 10)
+    ∷ hands motor (value []) 0 (refused 6 5)
+    ∷ refuses (attached 0 ∷ answered 2 1 1 ∷ []) five 15
     ∷ refuses (motor ++ (answered 2 1 1 ∷ [])) (value (0x05 ∷ 0x00 ∷ 0x00 ∷ [])) 16
     ∷ hands (motor ++ (answered 2 1 1 ∷ [])) five 1 (refused 17 0)
     ∷ hands motor (attached 1) 0 (refused 17 0)

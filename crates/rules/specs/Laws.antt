@@ -6,6 +6,8 @@ use mathlib.Core.Bool.{Bool, true, false}
 use mathlib.Core.List.{List, [], _∷_, _++_}
 use mathlib.Core.Option.{none, some}
 use lib.ListN.{replicate}
+use Rattle.protocol.specs.Decode as Decode
+use Rattle.protocol.specs.Decode.{decode}
 use Rattle.protocol.specs.declared.Way.{Way}
 use Rattle.rules.specs.Table.{Record, Table, fullTable, insert, remove}
 use Rattle.rules.specs.Layout.{stride}
@@ -13,7 +15,7 @@ use Rattle.rules.specs.Answer.{Answer, refused, accepted, outcome}
 use Rattle.rules.specs.Cells.{placeCells, tableAt, sound, emptyCells}
 use Rattle.rules.specs.Effect.{Change, Unchanged, Formatted, Answered, Asked, Effect, Nothing, ToPort, Attach, AttachVirtual, Detach, Value, Disconnect, Connect, Empty}
 use Rattle.rules.specs.Dataset.{Dataset}
-use Rattle.rules.specs.Offer.{Entry, offerByCells, cellsAfter, datasetByCells}
+use Rattle.rules.specs.Offer.{Entry, offerByCells, cellsAfter, datasetByCells, valuesByCells}
 use Rattle.rules.specs.Demand3.{EntryFits}
 
 -- the empty table is sound
@@ -27,6 +29,14 @@ StepKeepsSound = (cells : List ℕ) (e : Entry) → EntryFits e → sound cells 
 -- a refused message leaves the table as it was
 abbrev pub RefusedChangesNothing : Type 0
 RefusedChangesNothing = (cells : List ℕ) (e : Entry) (number place : ℕ) → offerByCells cells e ≡ refused number place → cellsAfter cells e ≡ cells
+
+-- every call on a sound table passes a refusal of reading on as it is: its number and its place
+abbrev pub ReadingRefused : Type 0
+ReadingRefused =
+    (cells : List ℕ) → sound cells ≡ true → (e : Entry) (number place : ℕ) → decode (e .way) (e .bytes) ≡ Decode.refused number place
+    → (offerByCells cells e ≡ refused number place)
+    × ((n : ℕ) → datasetByCells cells (e .way) (e .bytes) n ≡ refused number place)
+    × (valuesByCells cells (e .way) (e .bytes) ≡ refused number place)
 
 -- a freed place equals one in an empty table
 abbrev pub FreedIsEmpty : Type 0
