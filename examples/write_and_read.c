@@ -1,4 +1,4 @@
-/* Writes two messages to the hub, shows their bytes and reads them back. A third one is refused. */
+/* Writes two messages to the hub, shows their bytes and reads them back. Two more are refused. */
 
 #include <stdio.h>
 
@@ -62,5 +62,8 @@ int main(void)
     /* No mode is over 15. */
     setup[CASTANETASH_INPUT_FORMAT_SETUP_MODE] = 300;
     write_and_read(setup, NULL, 0, message);
+
+    /* A name has a byte or more. The refusal says the smallest size of such a message. */
+    write_and_read(name, NULL, 0, message);
     return 0;
 }

@@ -1,4 +1,4 @@
-//! Writes two messages to the hub, shows their bytes and reads them back. A third one is refused.
+//! Writes two messages to the hub, shows their bytes and reads them back. Two more are refused.
 
 #[path = "../include/castanetash.rs"]
 mod castanetash;
@@ -47,6 +47,11 @@ fn both() -> Result<(), Refused> {
     // No mode is over 15.
     setup[input_format_setup::MODE] = 300;
     if let Err(refused) = write_and_read(&mut setup, &[]) {
+        println!("{refused}");
+    }
+
+    // A name has a byte or more. The refusal says the smallest size of such a message.
+    if let Err(refused) = write_and_read(&mut name, &[]) {
         println!("{refused}");
     }
     Ok(())

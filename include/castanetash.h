@@ -22,8 +22,8 @@ extern "C" {
 /* ---- Calls ----
  *
  * Every call returns one number. Its high half is the refusal, 0 if the call is accepted. Its low half is the place of
- * the refusal in the message; or, accepted, how much was written: bytes of a message or of text, cells of a row,
- * datasets, ports. A refused call changes nothing that was lent to it.
+ * the refusal in the message, or the size that it should have (6); or, accepted, how much was written: bytes of a
+ * message or of text, cells of a row, datasets, ports. A refused call changes nothing that was lent to it.
  *
  * What is lent to a call is a pointer and a length, counted in elements and not in bytes. A pointer may be NULL if its
  * length is 0. Every call ends with an answer, whatever the bytes and cells hold.
@@ -46,7 +46,9 @@ extern "C" {
 /* ---- Refusals ----
  *
  * The place is 1 for 4, 2 for 5, that of the field's first byte for 7 (in a fixed string, of the first byte that
- * differs), else 0.
+ * differs), else 0. Only the place of a 6 is no place but a size, in bytes of the whole message: the smallest that the
+ * type and its selectors allow; or, if the selectors themselves don't fit, the smallest that holds them. Every call
+ * that takes a message passes it on.
  */
 enum castanetash_refusal {
     CASTANETASH_REFUSED_NO_BYTES = 1,      /* the message has no bytes */
@@ -105,7 +107,7 @@ uint64_t castanetash_read(const uint8_t *message, size_t message_len, uint8_t wa
  *   7 for its selectors from left to right, one wider than its byte too; and at the last of them if they lead to
  *     another form than the row's;
  *   6 if there are too few or too many open bytes, or any for a form without them, or the count of a list (43) is not
- *     1 to 8;
+ *     1 to 8: with the smallest size of the form, which for a list is 7;
  *   7 for its other fields from left to right: a number that is not in its list, such as a mode of 16 or 300, a float
  *     that is not finite, a number too wide for six bytes;
  *   255 for a number too wide for a field that has no list, such as a port of 300, or a float's cell over 32 bits;

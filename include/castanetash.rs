@@ -33,7 +33,7 @@ pub const MOST_PORTS: usize = 16;
 pub const RECORD: usize = 136;
 pub const LINE_ROOM: usize = 462;
 
-/// A refusal: its number, one of `refused`, and its place in the message.
+/// A refusal: its number, one of `refused`, and its place in the message, or the size that it should have.
 #[derive(Clone, Copy, Debug, PartialEq, Eq)]
 pub struct Refused {
     pub number: u32,
@@ -125,7 +125,8 @@ pub fn read_block(table: &mut [u32], totals: &mut [u64], log: &[u8], text: &mut 
     answer(unsafe { raw::castanetash_read_block(table, table_len, totals, totals_len, log, log_len, text, text_len) })
 }
 
-/// The refusals. The place is 1 for 4, 2 for 5, that of the field's first byte for 7, else 0.
+/// The refusals. The place is 1 for 4, 2 for 5, that of the field's first byte for 7, else 0. That of a 6 is a size: the
+/// smallest that the message's type and selectors allow, or that holds its selectors if they don't fit.
 pub mod refused {
     /// The message has no bytes.
     pub const NO_BYTES: u32 = 1;
