@@ -1,5 +1,5 @@
 //! Answers of the second program as the product gives them: the refusal's number above its place, or how much was
-//! written.
+//! written. The place of a wrong size is the size that was wanted.
 
 use yardstick::{Decoded, Refusal, Row};
 
@@ -28,6 +28,11 @@ pub fn refused(refusal: Refusal) -> u64 {
 /// The refusal's number in an answer, 0 for acceptance.
 pub fn number(answer: u64) -> usize {
     (answer >> 32) as usize
+}
+
+/// The refusal's place in an answer.
+pub fn place(answer: u64) -> usize {
+    (answer & 0xFFFF_FFFF) as usize
 }
 
 /// The answer to a message that is read.
