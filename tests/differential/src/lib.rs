@@ -15,7 +15,7 @@ mod tally;
 mod writing;
 mod wrong_size;
 
-pub use answer::{number, place, refused, row_answer, Filled, BAD_ROW, NOT_SOUND};
+pub use answer::{number, refused, row_answer, Filled, BAD_ROW, NOT_SOUND};
 pub use castanetash::{DATASET_CELLS, FORMAT_CELLS, PORT_CELLS, ROW_CELLS, TOTALS_CELLS};
 pub use lent::{Filling, Lent};
 pub use product::{

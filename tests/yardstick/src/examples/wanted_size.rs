@@ -5,7 +5,6 @@ use crate::form::Form;
 use crate::way::Way::{self, Down, Up};
 
 /// The smallest size of a form's messages.
-#[rustfmt::skip]
 pub fn smallest_size(form: Form) -> usize {
     match form {
         Form::PropertyCommand => 5,
@@ -57,7 +56,6 @@ pub const SELECTOR_SIZES: [(u8, usize); 7] = [
 
 /// The form that the type and the selectors of a message lead to, none where the selectors don't fit. The message's
 /// header has to be right, and its selectors too.
-#[rustfmt::skip]
 pub fn selected_form(way: Way, message: &[u8]) -> Option<Form> {
     if selectors_size(message[2]).is_some_and(|size| message.len() < size) {
         return None;
