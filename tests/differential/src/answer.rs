@@ -30,11 +30,6 @@ pub fn number(answer: u64) -> usize {
     (answer >> 32) as usize
 }
 
-/// The refusal's place in an answer.
-pub fn place(answer: u64) -> usize {
-    (answer & 0xFFFF_FFFF) as usize
-}
-
 /// The answer to a message that is read.
 pub fn row_answer(outcome: &Result<Decoded, Refusal>) -> Result<Row, u64> {
     match outcome {

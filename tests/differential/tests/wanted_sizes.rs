@@ -2,8 +2,8 @@
 //! expected is written out by hand, so that the two programs can't be wrong alike.
 
 use differential::{
-    castanetash_read_block, read, refused, row_answer, valid_calls, Call, Lent, LentTable, Tally, WriteTally, OUTPUT,
-    WRONG_SIZE,
+    castanetash_read_block, number, read, refused, row_answer, valid_calls, wrong_size, Call, Lent, LentTable, Tally,
+    WriteTally, OUTPUT, WRONG_SIZE,
 };
 use yardstick::examples::{bytes, has_right_size, smallest_size, wanted_size, FORMS, SELECTOR_SIZES};
 use yardstick::{decode, log_record, Form, MessageList, Refusal, Table, Way, TABLE_CELLS};
@@ -37,7 +37,7 @@ fn wrong_sizes() -> Vec<(Way, Vec<u8>, u64)> {
     for filling in FILLINGS {
         for (way, message) in (HEADER..=LONGEST).flat_map(|size| resized(size, filling)) {
             if !has_right_size(way, &message) {
-                let answer = refused(Refusal::size(wanted_size(way, &message)));
+                let answer = wrong_size(wanted_size(way, &message));
                 wrong.push((way, message, answer));
             }
         }
@@ -57,20 +57,20 @@ fn reading_every_form_in_every_size() {
             for (way, message) in resized(size, filling) {
                 tally.compare(way, &message);
                 let by_hand = match size {
-                    0 => Some(Refusal::NO_BYTE),
-                    1..HEADER => Some(Refusal::LENGTH),
-                    TOO_LONG => Some(Refusal::LENGTH_BIT),
+                    0 => Some(refused(Refusal::NO_BYTE)),
+                    1..HEADER => Some(refused(Refusal::LENGTH)),
+                    TOO_LONG => Some(refused(Refusal::LENGTH_BIT)),
                     _ if has_right_size(way, &message) => None,
-                    _ => Some(Refusal::size(wanted_size(way, &message))),
+                    _ => Some(wrong_size(wanted_size(way, &message))),
                 };
                 let name = format!("{message:02X?} {way:?}");
                 for answer in [read(way, &message), row_answer(&decode(way, &message))] {
-                    match by_hand.map(refused) {
+                    match by_hand {
                         Some(refusal) => assert_eq!(answer, Err(refusal), "{name}"),
                         None => assert!(answer.is_ok(), "{name}: {answer:X?}"),
                     }
                 }
-                if by_hand.is_some_and(|it| usize::from(it.number) == WRONG_SIZE) {
+                if by_hand.is_some_and(|it| number(it) == WRONG_SIZE) {
                     wrong += 1;
                 } else {
                     others += 1;
@@ -102,7 +102,7 @@ fn reading_selectors_that_do_not_fit() {
                     message.extend(&contents.to_le_bytes()[..size - HEADER]);
                     tally.compare(way, &message);
                     let answer = read(way, &message);
-                    assert_eq!(answer, Err(refused(Refusal::size(holding))), "{message:02X?} {way:?}");
+                    assert_eq!(answer, Err(wrong_size(holding)), "{message:02X?} {way:?}");
                 }
             }
         }
@@ -215,7 +215,7 @@ fn writing_every_form_with_every_number_of_open_bytes() {
             let written = if may_have_open(&call, open) {
                 Ok(length(&call, open) as u64)
             } else {
-                Err(refused(Refusal::size(smallest_size(call.form))))
+                Err(wrong_size(smallest_size(call.form)))
             };
             for output in [OUTPUT, 0] {
                 let by_hand = match written {
@@ -239,12 +239,12 @@ fn writing_every_form_with_every_number_of_open_bytes() {
 #[test]
 fn writing_every_count_of_a_list() {
     /// The size of a list with one entry, and of an entry.
-    const ONE: u64 = 7;
-    const ENTRY: u64 = 2;
+    const ONE: usize = 7;
+    const ENTRY: usize = 2;
     let mut tally = WriteTally::default();
     for count in 0..=255 {
-        for open in [0, 1, 2] {
-            let mut values = vec![0x32, 2, count];
+        for open in [0, 1, ENTRY] {
+            let mut values = vec![0x32, 2, count as u64];
             values.extend(1..=8);
             let call = Call {
                 way: Way::Up,
@@ -255,8 +255,8 @@ fn writing_every_count_of_a_list() {
             };
             let answer = tally.compare_row(call.way, &call.row(), &call.open, call.output);
             let by_hand = match (count, open) {
-                (1..=8, 0) => ONE + ENTRY * (count - 1),
-                _ => (WRONG_SIZE as u64) << 32 | ONE,
+                (1..=8, 0) => (ONE + ENTRY * (count - 1)) as u64,
+                _ => wrong_size(ONE),
             };
             assert_eq!(answer, by_hand, "count {count}, {open} open bytes");
         }

@@ -32,6 +32,13 @@ fn wanted_by(way: Way, message: &[u8]) -> Option<usize> {
     wanted(decode(way, message).err())
 }
 
+fn wrong_size(wanted: usize) -> Refusal {
+    Refusal {
+        number: WRONG_SIZE,
+        place: wanted,
+    }
+}
+
 fn wanted(refusal: Option<Refusal>) -> Option<usize> {
     refusal.filter(|it| it.number == WRONG_SIZE).map(|it| it.place)
 }
@@ -120,7 +127,7 @@ fn selectors_that_do_not_fit() {
                 for contents in 0..1_u32 << (8 * (size - SHORTEST)) {
                     let mut message = vec![size as u8, 0, message_type];
                     message.extend(&contents.to_le_bytes()[..size - SHORTEST]);
-                    assert_eq!(decode(way, &message), Err(Refusal::size(holding)), "{message:02X?}");
+                    assert_eq!(decode(way, &message), Err(wrong_size(holding)), "{message:02X?}");
                     messages += 1;
                 }
             }
@@ -173,7 +180,7 @@ fn every_count_of_a_list() {
             let expected = if (1..=8).contains(&count) && open == 0 {
                 Ok(list + 2 * (count as usize - 1))
             } else {
-                Err(Refusal::size(list))
+                Err(wrong_size(list))
             };
             assert_eq!(length, expected, "count {count}, {open} open bytes");
         }

@@ -4,9 +4,9 @@ use yardstick::examples::smallest_size;
 use yardstick::{write_row, Form, Random, Way, ROW_CELLS};
 
 use super::call::Call;
-use crate::answer::{answer, number, place};
+use crate::answer::{answer, number};
 use crate::product;
-use crate::wrong_size::WRONG_SIZE;
+use crate::wrong_size::{wrong_size, WRONG_SIZE};
 
 /// The answers that are counted: acceptance, the refusals of writing, and rows that are no message's own.
 const NUMBERS: [usize; 6] = [0, 5, 6, 7, 8, 255];
@@ -58,7 +58,7 @@ impl WriteTally {
         }
         if number(expected.answer) == WRONG_SIZE {
             let form = Form::of_number(row[0]).expect("a row without a form has no size");
-            assert_eq!(place(expected.answer), smallest_size(form), "{form:?}: {row:X?}");
+            assert_eq!(expected.answer, wrong_size(smallest_size(form)), "{form:?}: {row:X?}");
         }
         self.calls += 1;
         self.seen[form_number(row)][column(number(expected.answer))] += 1;
