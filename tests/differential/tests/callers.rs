@@ -209,8 +209,8 @@ int main(void) {
 }
 "#;
 
-/// What it has to print: a 41 has ten bytes, a 02 four, a list of a 43 at least seven and a 45 at least five; a 44's type
-/// is its sixth byte. Making a table empty is accepted.
+/// What it has to print: a 41 has ten bytes, a 02 four, a list of a 43 at least seven and a 45 at least five; a 44's
+/// type is its sixth byte. Making a table empty is accepted.
 const SIZES_WANTED: &str = "\
 refusal 6, place 10
 refusal 6, place 4

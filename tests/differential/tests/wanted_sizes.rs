@@ -49,8 +49,8 @@ fn wrong_sizes() -> Vec<(Way, Vec<u8>, u64)> {
     wrong
 }
 
-/// Every form in every size from 0 to 128. Where the size is right, the message is: the filling is then of open bytes or
-/// of the entries of a list.
+/// Every form in every size from 0 to 128. Where the size is right, the message is: the filling is then of open bytes
+/// or of the entries of a list.
 #[test]
 fn reading_every_form_in_every_size() {
     let mut tally = Tally::default();
