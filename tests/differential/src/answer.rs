@@ -1,5 +1,5 @@
 //! Answers of the second program as the product gives them: the refusal's number above its place, or how much was
-//! written.
+//! written. The place of a wrong size is the size that was wanted.
 
 use yardstick::{Decoded, Refusal, Row};
 

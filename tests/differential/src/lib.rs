@@ -13,6 +13,7 @@ pub mod signed;
 mod table;
 mod tally;
 mod writing;
+mod wrong_size;
 
 pub use answer::{number, refused, row_answer, Filled, BAD_ROW, NOT_SOUND};
 pub use castanetash::{DATASET_CELLS, FORMAT_CELLS, PORT_CELLS, ROW_CELLS, TOTALS_CELLS};
@@ -25,5 +26,6 @@ pub use program::{logread, logread_by_shell, logread_path, printed, printed_in_p
 pub use table::{dataset_cells, format_cells, offer_answer, port_cells, values_cells, LentTable, TableTally, Trio};
 pub use tally::Tally;
 pub use writing::{any_call, edges, near_call, outside, valid_calls, Call, WriteTally, OUTPUT};
+pub use wrong_size::{wrong_size, WRONG_SIZE};
 pub use yardstick::traffic::{known_types, plausible};
 pub use yardstick::Random;

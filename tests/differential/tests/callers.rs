@@ -54,8 +54,17 @@ const LANGUAGES: [Language; 3] = [Language::C, Language::Cpp, Language::Rust];
 
 /// Builds an example. `purpose` keeps the programs of different tests apart.
 fn build(name: &str, language: Language, purpose: &str) -> PathBuf {
-    let program = temporary(&format!("{name}_{purpose}_{language:?}"));
-    let source = |ending| root().join("examples").join(format!("{name}.{ending}"));
+    let ending = match language {
+        Language::C | Language::Cpp => "c",
+        Language::Rust => "rs",
+    };
+    let source = root().join("examples").join(format!("{name}.{ending}"));
+    build_source(&source, language, &format!("{name}_{purpose}"))
+}
+
+/// Builds a program of one source, with the library.
+fn build_source(source: &Path, language: Language, name: &str) -> PathBuf {
+    let program = temporary(&format!("{name}_{language:?}"));
     let archive = Path::new(LIBRARY).join("libcastanetash.a");
     let mut command = match language {
         Language::C => cc("cc", &["-std=c99"]),
@@ -63,9 +72,9 @@ fn build(name: &str, language: Language, purpose: &str) -> PathBuf {
         Language::Rust => rustc(),
     };
     match language {
-        Language::C => command.arg(source("c")).arg(archive),
-        Language::Cpp => command.arg(source("c")).args(["-x", "none"]).arg(archive),
-        Language::Rust => command.arg("-L").arg(format!("native={LIBRARY}")).arg(source("rs")),
+        Language::C => command.arg(source).arg(archive),
+        Language::Cpp => command.arg(source).args(["-x", "none"]).arg(archive),
+        Language::Rust => command.arg("-L").arg(format!("native={LIBRARY}")).arg(source),
     };
     accepted(command.arg("-o").arg(&program));
     program
@@ -165,6 +174,59 @@ fn read_log_tells_what_fails() {
         let output = run(&mut Command::new(&program));
         assert!(!output.status.success() && output.stdout.is_empty(), "{language:?}");
         assert_eq!(String::from_utf8_lossy(&output.stderr), "usage: read_log FILE\n");
+    }
+}
+
+/// A program in C that shows the answers of all calls that judge a size, by the macros of the header.
+const WRONG_SIZES: &str = r#"
+#include "castanetash.h"
+#include <stdio.h>
+
+static void show(uint64_t answer) {
+    printf("refusal %u, place %u\n", (unsigned)CASTANETASH_REFUSAL(answer), (unsigned)CASTANETASH_PLACE(answer));
+}
+
+int main(void) {
+    const uint8_t action[] = {3, 0, 0x02};
+    const uint8_t list[] = {6, 0, 0x43, 0, 2, 0x16};
+    const uint8_t value[] = {4, 0, 0x45, 0};
+    const uint8_t information[] = {5, 0, 0x44, 0, 2};
+    const uint8_t surplus[] = {0};
+    uint8_t out[CASTANETASH_LONGEST];
+    uint32_t table[CASTANETASH_TABLE_CELLS];
+    uint64_t cells[CASTANETASH_DATASET_CELLS];
+    uint64_t row[CASTANETASH_ROW_CELLS] = {0};
+    row[CASTANETASH_ROW_FORM] = CASTANETASH_FORM_INPUT_FORMAT_SETUP;
+    show(castanetash_write(row, CASTANETASH_ROW_CELLS, CASTANETASH_DOWN, surplus, 1, out, sizeof out));
+    show(castanetash_read(action, sizeof action, CASTANETASH_DOWN, row, CASTANETASH_ROW_CELLS));
+    show(castanetash_empty(table, CASTANETASH_TABLE_CELLS));
+    show(castanetash_offer(table, CASTANETASH_TABLE_CELLS, list, sizeof list, CASTANETASH_UP, 0));
+    show(castanetash_dataset(table, CASTANETASH_TABLE_CELLS, value, sizeof value, CASTANETASH_UP, 0, cells,
+                             CASTANETASH_DATASET_CELLS));
+    show(castanetash_values(table, CASTANETASH_TABLE_CELLS, information, sizeof information, CASTANETASH_UP, cells,
+                            CASTANETASH_DATASET_CELLS));
+    return 0;
+}
+"#;
+
+/// What it has to print: a 41 has ten bytes, a 02 four, a list of a 43 at least seven and a 45 at least five; a 44's
+/// type is its sixth byte. Making a table empty is accepted.
+const SIZES_WANTED: &str = "\
+refusal 6, place 10
+refusal 6, place 4
+refusal 0, place 0
+refusal 6, place 7
+refusal 6, place 5
+refusal 6, place 6
+";
+
+#[test]
+fn callers_in_c_see_the_size_that_was_wanted() {
+    let source = temporary("wrong_sizes.c");
+    fs::write(&source, WRONG_SIZES).expect("a source is written");
+    for language in [Language::C, Language::Cpp] {
+        let program = build_source(&source, language, "wrong_sizes");
+        assert_eq!(accepted(&mut Command::new(program)), SIZES_WANTED, "{language:?}");
     }
 }
 
@@ -663,7 +725,7 @@ fn refusals_are_those_of_the_second_program() {
         ("LENGTH", Refusal::LENGTH.number),
         ("HUB_ID", Refusal::HUB_ID.number),
         ("TYPE", Refusal::MESSAGE_TYPE.number),
-        ("SIZE", Refusal::SIZE.number),
+        ("SIZE", Refusal::size(3).number),
         ("FIELD", Refusal::field(3).number),
         ("OUTPUT", Refusal::OUTPUT.number),
         ("TABLE", Refusal::TABLE.number),
@@ -743,10 +805,14 @@ fn functions_for_rust_call_the_library() {
     assert_eq!(row[castanetash::row::COUNT], 4);
     assert_eq!(castanetash::read(asked, 1, &mut row), refused(5, 2));
     assert_eq!(castanetash::read(asked, 0, &mut row[..15]), refused(255, 0));
+    // The place of a wrong size is the size that was wanted: a value has five bytes or more.
+    let no_value = b"\x04\x00\x45\x09";
+    assert_eq!(castanetash::read(no_value, 1, &mut row), refused(6, 5));
     let mut out = [7; 11];
     assert_eq!(castanetash::write(&row, 0, &[], &mut out), Ok(10));
     assert_eq!(out, *b"\x0A\x00\x41\x09\x03\x05\x00\x00\x00\x01\x07");
-    assert_eq!(castanetash::write(&row, 0, &[1], &mut out), refused(6, 0));
+    // A 41 has ten bytes.
+    assert_eq!(castanetash::write(&row, 0, &[1], &mut out), refused(6, 10));
     row[castanetash::input_format_setup::MODE] = 300;
     assert_eq!(castanetash::write(&row, 0, &[], &mut out), refused(7, 4));
 
@@ -760,16 +826,19 @@ fn functions_for_rust_call_the_library() {
     }
     assert_eq!(table, second.to_cells());
     assert_eq!(castanetash::offer(&mut table, attached, 1, 0), refused(11, 0));
+    assert_eq!(castanetash::offer(&mut table, no_value, 1, 0), refused(6, 5));
 
     let minus_two = -2i64 as u64;
     let mut row = [70; 7];
     assert_eq!(castanetash::dataset(&table, value, 1, 1, &mut row), Ok(6));
     assert_eq!(row, [0, minus_two, 9, 3, 2, 301, 70]);
     assert_eq!(castanetash::dataset(&table, value, 1, 2, &mut row), refused(17, 0));
+    assert_eq!(castanetash::dataset(&table, no_value, 1, 0, &mut row), refused(6, 5));
     let mut rows = [70; 13];
     assert_eq!(castanetash::values(&table, value, 1, &mut rows), Ok(2));
     assert_eq!(rows, [0, 7, 9, 3, 2, 301, 0, minus_two, 9, 3, 2, 301, 70]);
     assert_eq!(castanetash::values(&table, value, 1, &mut rows[..11]), refused(255, 0));
+    assert_eq!(castanetash::values(&table, no_value, 1, &mut rows), refused(6, 5));
 
     let mut ports = [70; 2];
     assert_eq!(castanetash::ports(&table, &mut ports), Ok(1));

@@ -54,6 +54,7 @@ fn every_size() {
     println!("every size: {tally}");
     tally.expect_refusals([0, 1, 2, 3, 5, 6, 7], 500);
     tally.expect_forms(10);
+    tally.expect_wrong_sizes(20);
 }
 
 #[test]
@@ -99,6 +100,7 @@ fn every_value_of_every_byte_at_sizes_nearby() {
     println!("every value of every byte at sizes nearby: {tally}");
     tally.expect_refusals([0, 4, 5, 6, 7], 1_000_000);
     tally.expect_forms(50);
+    tally.expect_wrong_sizes(1000);
 }
 
 /// Two wrong bytes: which of them is judged first.

@@ -2,7 +2,7 @@
 
 use differential::{read, row_answer, Tally};
 use yardstick::decode;
-use yardstick::examples::{Example, BENCH, FORMS, ORDER};
+use yardstick::examples::{Example, BENCH, FORMS, ORDER, SIZES};
 
 fn check(examples: &[Example]) -> Tally {
     let mut tally = Tally::default();
@@ -31,4 +31,11 @@ fn form_examples() {
 #[test]
 fn order_examples() {
     check(ORDER).expect_refusals(2..=7, 1);
+}
+
+#[test]
+fn size_examples() {
+    let tally = check(SIZES);
+    tally.expect_wrong_sizes(1);
+    tally.expect_refusals([6], tally.messages());
 }

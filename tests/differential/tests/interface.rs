@@ -1,7 +1,7 @@
 //! The edges of reading: how many cells are lent for the row, and how the way is told.
 
 use differential::{castanetash_read, read, row_answer, Filling, Lent, BAD_ROW, ROW_CELLS};
-use yardstick::examples::{BENCH, FORMS, ORDER};
+use yardstick::examples::{BENCH, FORMS, ORDER, SIZES};
 use yardstick::{decode, Way};
 
 /// Every number of cells from none to twice a row's. Only an accepted message with a whole row changes cells, and only
@@ -9,7 +9,7 @@ use yardstick::{decode, Way};
 #[test]
 fn only_the_first_cells_change() {
     let [mut accepted, mut refused, mut too_short] = [0, 0, 0];
-    for example in BENCH.iter().chain(FORMS).chain(ORDER) {
+    for example in BENCH.iter().chain(FORMS).chain(ORDER).chain(SIZES) {
         let mut message = Lent::holding(&example.bytes());
         let way = u8::from(example.way == Way::Up);
         let expected = row_answer(&example.answer());

@@ -129,7 +129,8 @@ fn write() {
     expect(row(), Slice::NULL, out(), 3, &REQUEST);
     expect(Slice::NULL, Slice::of(b"x"), out(), BAD_ROW, &[]);
     expect(text(), Slice::of(b"x"), out(), 6, &[0x06, 0x00, 0x01, 0x01, 0x01, b'x']);
-    expect(text(), Slice::NULL, out(), refusal(6, 0), &[]);
+    // Six bytes were wanted: one of a text.
+    expect(text(), Slice::NULL, out(), refusal(6, 6), &[]);
     expect(row(), Slice::of(&[]), Slice::NULL, NO_ROOM, &[]);
     expect(row(), Slice::NULL, Slice::NULL, NO_ROOM, &[]);
     expect(text(), Slice::of(b"x"), Slice::NULL, NO_ROOM, &[]);

@@ -17,6 +17,7 @@ fn plausible_messages() {
     tally.expect_refusals([1], 1000);
     tally.expect_refusals(2..=7, 10_000);
     tally.expect_forms(5_000);
+    tally.expect_wrong_sizes(100);
 }
 
 #[test]

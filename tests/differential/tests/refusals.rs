@@ -56,8 +56,8 @@ fn expect_written<T: differential::Filling>(answer: u64, lent: &Lent<T>, written
     }
 }
 
-/// Messages that reading refuses, with their way and the answer.
-const UNREAD: [(u8, &str, u64); 10] = [
+/// Messages that reading refuses, with their way and the answer. The place of 6 is the size that was wanted.
+const UNREAD: [(u8, &str, u64); 19] = [
     (DOWN, "", refusal(1, 0)),
     (UP, "80", refusal(2, 0)),
     (DOWN, "04 00 02", refusal(3, 0)),
@@ -65,7 +65,16 @@ const UNREAD: [(u8, &str, u64); 10] = [
     (DOWN, "03 01 12", refusal(4, 1)),
     (UP, "03 00 12", refusal(5, 2)),
     (UP, "05 00 61 00 10", refusal(5, 2)),
-    (DOWN, "03 00 02", refusal(6, 0)),
+    (DOWN, "03 00 02", refusal(6, 4)),
+    (DOWN, "05 00 02 01 00", refusal(6, 4)),
+    (DOWN, "04 00 01 63", refusal(6, 5)),
+    (UP, "05 00 44 00 63", refusal(6, 6)),
+    (UP, "06 00 44 00 01 00", refusal(6, 7)),
+    (UP, "06 00 43 00 02 16", refusal(6, 7)),
+    (UP, "04 00 45 00", refusal(6, 5)),
+    (DOWN, "05 00 61 01 00", refusal(6, 6)),
+    (UP, "0E 00 04 00 01 26 00 00 00 00 10 00 00 00", refusal(6, 15)),
+    (DOWN, "04 00 12 00", refusal(6, 3)),
     (DOWN, "04 00 02 07", refusal(7, 3)),
     (UP, "0E 00 44 00 00 01 00 00 00 00 00 00 80 7F", refusal(7, 10)),
 ];
@@ -160,11 +169,19 @@ fn write() {
         call(UP, &row(4, &[3, 6, 300]), b"xyz", out, refusal(7, 4), "");
         call(UP, &row(11, &[300, 1]), b"xyz", out, refusal(7, 4), "");
         call(UP, &row(24, &[300, 300, 1]), b"", out, refusal(7, 5), "");
-        // Open bytes: some for a form without them, too few, too many. The count of a 43.
-        call(DOWN, &row(21, &[300, 300, 1, 300]), b"x", out, refusal(6, 0), "");
-        call(UP, &row(24, &[300, 300, 0]), b"", out, refusal(6, 0), "");
-        call(UP, &row(24, &[0, 1, 0]), b"twelve bytes", out, refusal(6, 0), "");
-        call(UP, &row(23, &[300, 2, 300]), b"", out, refusal(6, 0), "");
+        // Open bytes: some for a form without them, too few, too many. The count of a 43. The place is the smallest
+        // size of the form, of a 43's list the one with a single entry.
+        call(DOWN, &row(21, &[300, 300, 1, 300]), b"x", out, refusal(6, 10), "");
+        call(UP, &row(12, &[300, 1, 0x26, 0, 0]), b"x", out, refusal(6, 15), "");
+        call(DOWN, &row(17, &[]), b"xyz", out, refusal(6, 3), "");
+        call(UP, &row(24, &[300, 300, 0]), b"", out, refusal(6, 7), "");
+        call(UP, &row(24, &[0, 1, 0]), b"twelve bytes", out, refusal(6, 7), "");
+        call(DOWN, &row(2, &[1, 1]), b"", out, refusal(6, 6), "");
+        call(UP, &row(30, &[300]), b"", out, refusal(6, 5), "");
+        call(UP, &row(30, &[0]), &[b'x'; 124], out, refusal(6, 5), "");
+        call(UP, &row(23, &[300, 2, 300]), b"", out, refusal(6, 7), "");
+        call(UP, &row(23, &[0, 2, 0]), b"", out, refusal(6, 7), "");
+        call(UP, &row(23, &[0, 2, 3, 1, 2, 3]), b"x", out, refusal(6, 7), "");
         // Fields with a list: the first of two, the second, and one to the right of a wide number.
         call(DOWN, &row(21, &[300, 300, 1, 300]), b"", out, refusal(7, 4), "");
         call(DOWN, &row(21, &[300, 15, 1 << 32, 2]), b"", out, refusal(7, 9), "");

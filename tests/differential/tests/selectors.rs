@@ -86,6 +86,7 @@ fn every_pair_at_places_3_and_4() {
     println!("every pair at places 3 and 4: {tally}");
     tally.expect_refusals([0, 5, 6, 7], 500_000);
     tally.expect_forms(1);
+    tally.expect_wrong_sizes(1);
 }
 
 #[test]
@@ -94,6 +95,7 @@ fn every_pair_at_places_4_and_5() {
     println!("every pair at places 4 and 5: {tally}");
     tally.expect_refusals([0, 5, 6, 7], 500_000);
     tally.expect_forms(1);
+    tally.expect_wrong_sizes(1);
 }
 
 #[test]

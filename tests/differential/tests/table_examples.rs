@@ -48,7 +48,7 @@ fn table_examples() {
         trio.compare_all_ports(&mut tally);
     }
     println!("{tally}");
-    tally.expect_offered([0, 1, 4, 5, 7, 10, 11, 12, 14, 15, 16], 1);
+    tally.expect_offered([0, 1, 4, 5, 6, 7, 10, 11, 12, 14, 15, 16], 1);
     tally.expect_handed_out([0, 1, 2, 3, 4, 5, 6, 7, 11, 14, 16, 17, 18], 1);
     tally.expect_ports(1);
     tally.expect_experiments(1);

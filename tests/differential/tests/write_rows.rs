@@ -42,6 +42,9 @@ const fn seven(place: u64) -> u64 {
     7 << 32 | place
 }
 
+/// The answer to a wrong count of a 43's list: the size of a list with one entry was wanted.
+const NO_LIST: u64 = 6 << 32 | 7;
+
 /// By hand: the answer where a value of a form is 2^63 and all else is right. It is outside every list, wider than every
 /// field, and the least signed number of 64 bits.
 fn answers_to_wide_values(call: &Call) -> Vec<u64> {
@@ -68,7 +71,7 @@ fn answers_to_wide_values(call: &Call) -> Vec<u64> {
             let count = call.values[2];
             // Past the count they are not looked at.
             let entry = |index| if index < count { WIDE } else { 5 + 2 * count };
-            let mut answers = vec![WIDE, seven(4), 6 << 32];
+            let mut answers = vec![WIDE, seven(4), NO_LIST];
             answers.extend((0..8).map(entry));
             answers
         }
@@ -206,7 +209,7 @@ fn entries_of_a_list() {
             let mut expected = if (1..=8).contains(&count) {
                 5 + 2 * count
             } else {
-                6 << 32
+                NO_LIST
             };
             if turn % 2 == 1 && !within.is_empty() {
                 let wide = random.below(within.len());

@@ -29,7 +29,7 @@ impl<'a> Fields<'a> {
         self.message.len()
     }
 
-    /// Judges whether the selectors fit, the last of which is at `place`.
+    /// Judges whether the selectors fit, the last of which is at `place`. The size that holds them is one more.
     pub(crate) fn selectors_up_to(&self, place: usize) -> Result<(), Refusal> {
         self.size_in(place + 1..=usize::MAX)
     }
@@ -39,12 +39,12 @@ impl<'a> Fields<'a> {
         self.size_in(size..=size)
     }
 
-    /// Judges the whole size: it has to be one of `sizes`.
+    /// Judges the whole size: it has to be one of `sizes`. A refusal tells the smallest of them.
     pub(crate) fn size_in(&self, sizes: RangeInclusive<usize>) -> Result<(), Refusal> {
         if sizes.contains(&self.size()) {
             Ok(())
         } else {
-            Err(Refusal::SIZE)
+            Err(Refusal::size(*sizes.start()))
         }
     }
 

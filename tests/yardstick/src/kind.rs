@@ -22,6 +22,16 @@ pub enum Kind {
 }
 
 impl Kind {
+    /// How many bytes a value of this kind has in a message.
+    pub(crate) fn width(self) -> usize {
+        match self {
+            Kind::Fixed(_) | Kind::Byte | Kind::SignedByte => 1,
+            Kind::TwoBytes => 2,
+            Kind::FourBytes | Kind::SignedFourBytes | Kind::Float => 4,
+            Kind::SixBytes => 6,
+        }
+    }
+
     /// Whether a number is a value of this kind.
     pub fn holds(self, number: u64) -> bool {
         match self {

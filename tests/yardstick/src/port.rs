@@ -33,10 +33,13 @@ fn modes(mut fields: Fields) -> Result<Decoded, Refusal> {
     fields.accept(Form::PortModes)
 }
 
+/// The size of a list of mode combinations that has one of them.
+const ONE_COMBINATION: usize = 7;
+
 /// One to eight mode combinations. Their count is handed out before them, and entries past it are 0.
 fn combinations(mut fields: Fields) -> Result<Decoded, Refusal> {
     let count: u8 = match fields.size() {
-        7 => 1,
+        ONE_COMBINATION => 1,
         9 => 2,
         11 => 3,
         13 => 4,
@@ -44,7 +47,7 @@ fn combinations(mut fields: Fields) -> Result<Decoded, Refusal> {
         17 => 6,
         19 => 7,
         21 => 8,
-        _ => return Err(Refusal::SIZE),
+        _ => return Err(Refusal::size(ONE_COMBINATION)),
     };
     fields.derived(count);
     for _ in 0..count {

@@ -1,9 +1,11 @@
-/// Why a message is refused: the number in the list of refusals, and a place in the message.
+/// Why a message is refused: the number in the list of refusals, and a place in the message or, for a wrong size, the
+/// size that was wanted.
 #[derive(Clone, Copy, Debug, PartialEq, Eq)]
 pub struct Refusal {
     /// The number in the list of refusals, never 0.
     pub number: u8,
-    /// The place that is wrong: 1 for number 4, 2 for number 5, the field's first byte for number 7, else 0.
+    /// The place that is wrong: 1 for number 4, 2 for number 5, the field's first byte for number 7. For number 6 it is
+    /// the size that was wanted, see [`Refusal::size`]. Else 0.
     pub place: usize,
 }
 
@@ -18,8 +20,6 @@ impl Refusal {
     pub const HUB_ID: Refusal = Refusal::new(4, 1);
     /// The type is unknown or doesn't go this way.
     pub const MESSAGE_TYPE: Refusal = Refusal::new(5, 2);
-    /// The message is too short for its selectors, or has no size for them.
-    pub const SIZE: Refusal = Refusal::new(6, 0);
     /// The output is shorter than the message.
     pub const OUTPUT: Refusal = Refusal::new(8, 0);
     /// The table isn't sound.
@@ -47,6 +47,12 @@ impl Refusal {
     /// The one number that isn't in the list of refusals: the cells lent for an answer are too few, or the row given to
     /// writing is no message's own.
     pub const ROW: Refusal = Refusal::new(255, 0);
+
+    /// The message is too short for its selectors, or has no size for them. `wanted` is the smallest size that the type
+    /// and its selectors allow or, where the selectors don't fit, the smallest that holds them.
+    pub const fn size(wanted: usize) -> Refusal {
+        Refusal::new(6, wanted)
+    }
 
     /// The field that starts at `place` is outside its list.
     pub const fn field(place: usize) -> Refusal {

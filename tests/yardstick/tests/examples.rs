@@ -1,6 +1,6 @@
 //! The second program gives every answer that is written out by hand.
 
-use yardstick::examples::{Example, BENCH, FORMS, ORDER, WRITING};
+use yardstick::examples::{Example, BENCH, FORMS, ORDER, SIZES, WRITING};
 use yardstick::{decode, encode, encode_to, write_row, Form, Message, Refusal, Way, ROW_CELLS};
 
 fn check(examples: &[Example]) {
@@ -23,6 +23,11 @@ fn form_examples() {
 #[test]
 fn order_examples() {
     check(ORDER);
+}
+
+#[test]
+fn size_examples() {
+    check(SIZES);
 }
 
 #[test]

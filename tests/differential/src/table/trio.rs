@@ -7,9 +7,10 @@ use super::lent_table::LentTable;
 use super::tally::TableTally;
 use crate::answer::{refused, BAD_ROW};
 use crate::castanetash::{DATASET_CELLS, MOST_DATASETS, PORT_CELLS};
+use crate::wrong_size::expect_size_by_hand;
 
 /// A list of messages that three follow: the product's table, the second program's table and the reader without a
-/// table. Every comparison panics if two of them differ.
+/// table. Every comparison panics if two of them differ, or tell another size than the one that is wanted by hand.
 #[derive(Clone)]
 pub struct Trio {
     product: LentTable,
@@ -48,6 +49,7 @@ impl Trio {
         let name = || format!("{message:02X?} {way:?} with {experiment}");
         assert_eq!(by_list, answer, "the second program differs on {}", name());
         assert_eq!(by_product, offer_answer(answer), "the product differs on {}", name());
+        expect_size_by_hand(way, message, answer.err());
         assert_eq!(
             self.product.cells(),
             self.table.to_cells(),
@@ -90,6 +92,7 @@ impl Trio {
             dataset_cells(answer),
             "the product differs on dataset {number} of {message:02X?} {way:?}"
         );
+        expect_size_by_hand(way, message, answer.err());
         tally.count_handed_out(answer);
         if let Ok(dataset) = answer {
             tally.count_dataset(&self.table, &dataset);
@@ -104,6 +107,7 @@ impl Trio {
         let name = || format!("the values of {message:02X?} {way:?}");
         let by_list = self.list.values(way, message);
         assert_eq!(by_list, answer, "the second program differs on {}", name());
+        expect_size_by_hand(way, message, answer.as_ref().err().copied());
         tally.count_whole(answer.as_ref().map(Vec::len).map_err(|&refusal| refusal));
         let by_product = self.product.values(way, message);
         assert_eq!(by_product, values_cells(answer), "the product differs on {}", name());

@@ -1,10 +1,12 @@
 use std::fmt;
 
+use yardstick::examples::smallest_size;
 use yardstick::{write_row, Form, Random, Way, ROW_CELLS};
 
 use super::call::Call;
 use crate::answer::{answer, number};
 use crate::product;
+use crate::wrong_size::{wrong_size, WRONG_SIZE};
 
 /// The answers that are counted: acceptance, the refusals of writing, and rows that are no message's own.
 const NUMBERS: [usize; 6] = [0, 5, 6, 7, 8, 255];
@@ -45,13 +47,18 @@ impl WriteTally {
         self.compare_row(call.way, &call.row(), &call.open, call.output);
     }
 
-    /// The same with any cells as the row. Gives the answer.
+    /// The same with any cells as the row. Panics too if a wrong size is told another size than the smallest one that
+    /// the form has by hand. Gives the answer.
     pub fn compare_row(&mut self, way: Way, row: &[u64], open: &[u8], output: usize) -> u64 {
         let before = self.output_before(output);
         let expected = outcome(before, output, |lent| answer(write_row(way, row, open, lent)));
         let by_product = outcome(before, output, |lent| product::write(way, row, open, lent));
         if by_product != expected {
             differ(way, row, open, &expected, &by_product);
+        }
+        if number(expected.answer) == WRONG_SIZE {
+            let form = Form::of_number(row[0]).expect("a row without a form has no size");
+            assert_eq!(expected.answer, wrong_size(smallest_size(form)), "{form:?}: {row:X?}");
         }
         self.calls += 1;
         self.seen[form_number(row)][column(number(expected.answer))] += 1;

@@ -86,8 +86,8 @@ pub const EXPERIMENTS: &[TableExample] = &[
         // Refused before any asking: mode 16, notify 2, a byte too few, a byte too many, the wrong way.
         refused_in(3, Down, "0A 00 41 00 10 01 00 00 00 01", 7, 4),
         refused_in(4, Down, "0A 00 41 00 02 01 00 00 00 02", 7, 9),
-        refused_in(5, Down, "09 00 41 00 02 01 00 00 00", 6, 0),
-        refused_in(6, Down, "0B 00 41 00 02 01 00 00 00 01 00", 6, 0),
+        refused_in(5, Down, "09 00 41 00 02 01 00 00 00", 6, 10),
+        refused_in(6, Down, "0B 00 41 00 02 01 00 00 00 01 00", 6, 10),
         refused_in(7, Up, ASK_2, 5, 2),
         bare(0, Unjoined),
         accepted(Up, FORMAT_2),
@@ -96,8 +96,8 @@ pub const EXPERIMENTS: &[TableExample] = &[
         // And after it.
         refused_in(9, Down, "0A 00 41 00 10 01 00 00 00 01", 7, 4),
         refused_in(10, Down, "0A 00 41 00 02 01 00 00 00 02", 7, 9),
-        refused_in(11, Down, "09 00 41 00 02 01 00 00 00", 6, 0),
-        refused_in(12, Down, "0B 00 41 00 02 01 00 00 00 01 00", 6, 0),
+        refused_in(11, Down, "09 00 41 00 02 01 00 00 00", 6, 10),
+        refused_in(12, Down, "0B 00 41 00 02 01 00 00 00 01 00", 6, 10),
         refused_in(13, Down, "0A 01 41 00 02 01 00 00 00 01", 4, 1),
         refused_in(14, Up, ASK_2, 5, 2),
         refused_in(15, Down, "0A 00 41 01 02 01 00 00 00 01", 10, 0),

@@ -121,6 +121,16 @@ pub const LOGS: &[LogExample] = &[
                 total 5 refused 0\n",
     },
     LogExample {
+        name: "of a wrong size the number alone, whatever size was wanted",
+        records: &[
+            ("00 00 00 00", "03 00 02"), ("00 00 00 00", "05 00 02 01 00"), ("00 00 00 00", "03 00 01"),
+            ("01 00 00 00", "05 00 44 00 02"), ("01 00 00 00", "06 00 44 00 02 00"),
+            ("01 00 00 00", "06 00 43 00 02 16"), ("01 00 00 00", "04 00 45 00"), ("00 00 00 00", "05 00 61 01 00"),
+            ("01 00 00 00", "0E 00 04 00 01 26 00 00 00 00 10 00 00 00"), ("01 00 00 00", VALUE),
+        ],
+        lines: "1 6\n2 6\n3 6\n4 6\n5 6\n6 6\n7 6\n8 6\n9 6\n10 10\ntotal 10 refused 10\n",
+    },
+    LogExample {
         name: "bytes 6 and 7 are not looked at by refusal 19, byte 5 is",
         records: &[
             ("00 00 FF FF", "03 00 12"), ("00 00 01 00", "03 00 12"), ("00 00 00 80", "03 00 12"),

@@ -1,4 +1,5 @@
-//! Messages with the answers they have to get, written out by hand from the documents. Both programs are held to them.
+//! Messages with the answers they have to get, and the sizes of messages, written out by hand from the documents. Both
+//! programs are held to them.
 
 mod bench;
 mod experiments;
@@ -7,9 +8,11 @@ mod hex;
 mod logs;
 mod messages;
 mod order;
+mod sizes;
 mod sound;
 mod table_step;
 mod tables;
+mod wanted_size;
 mod whole_numbers;
 mod writing;
 
@@ -27,9 +30,11 @@ pub use forms::FORMS;
 pub use hex::bytes;
 pub use logs::{LogExample, LOGS};
 pub use order::ORDER;
+pub use sizes::SIZES;
 pub use sound::{SoundExample, SOUND};
 pub use table_step::{TableExample, TableStep};
 pub use tables::TABLES;
+pub use wanted_size::{has_right_size, selected_form, smallest_size, wanted_size, SELECTOR_SIZES};
 pub use whole_numbers::WHOLE_NUMBERS;
 pub use writing::{Unwritten, WRITING};
 

@@ -1,7 +1,8 @@
 use super::{refused, Example};
 use crate::way::Way::{Down, Up};
 
-/// Refused messages: the order of the refusals, and the edges of sizes and lists.
+/// Refused messages: the order of the refusals, and the edges of sizes and lists. What 6 tells is the size that was
+/// wanted.
 #[rustfmt::skip]
 pub const ORDER: &[Example] = &[
     // The header: bit 7 before the length, the length before the hub id, the hub id before the type.
@@ -25,13 +26,13 @@ pub const ORDER: &[Example] = &[
     refused(Up, "0A 00 41 00 02 01 00 00 00 01", 5, 2),
     refused(Down, "0A 00 47 00 02 01 00 00 00 01", 5, 2),
     // All selectors have to fit before one of them is judged.
-    refused(Down, "03 00 01", 6, 0),
-    refused(Down, "04 00 01 63", 6, 0),
-    refused(Up, "04 00 03 63", 6, 0),
-    refused(Up, "04 00 04 00", 6, 0),
-    refused(Up, "04 00 43 00", 6, 0),
-    refused(Up, "05 00 44 00 63", 6, 0),
-    refused(Down, "03 00 61", 6, 0),
+    refused(Down, "03 00 01", 6, 5),
+    refused(Down, "04 00 01 63", 6, 5),
+    refused(Up, "04 00 03 63", 6, 5),
+    refused(Up, "04 00 04 00", 6, 5),
+    refused(Up, "04 00 43 00", 6, 5),
+    refused(Up, "05 00 44 00 63", 6, 6),
+    refused(Down, "03 00 61", 6, 4),
     // A selector is judged before the size, and selectors are judged left to right.
     refused(Down, "06 00 01 00 00 00", 7, 3),
     refused(Down, "05 00 01 10 05", 7, 3),
@@ -54,26 +55,26 @@ pub const ORDER: &[Example] = &[
     refused(Down, "04 00 02 30", 7, 3),
     // A 44's mode is no selector: its type and its size come first.
     refused(Up, "07 00 44 00 10 06 00", 7, 5),
-    refused(Up, "06 00 44 00 10 00", 6, 0),
+    refused(Up, "06 00 44 00 10 00", 6, 7),
     refused(Up, "07 00 44 00 10 07 65", 7, 4),
     refused(Up, "07 00 44 00 0F 07 65", 7, 6),
     // Sizes.
-    refused(Down, "05 00 01 01 01", 6, 0),
-    refused(Down, "14 00 01 01 01 31 32 33 34 35 36 37 38 39 30 31 32 33 34 35", 6, 0),
-    refused(Down, "06 00 01 01 05 00", 6, 0),
-    refused(Up, "05 00 03 01 04", 6, 0),
-    refused(Up, "08 00 04 10 02 26 00 00", 6, 0),
-    refused(Down, "04 00 12 00", 6, 0),
-    refused(Up, "05 00 43 00 02", 6, 0),
-    refused(Up, "06 00 43 00 02 16", 6, 0),
-    refused(Up, "08 00 43 00 02 16 00 16", 6, 0),
-    refused(Up, "17 00 43 00 02 01 00 02 00 03 00 04 00 05 00 06 00 07 00 08 00 09 00", 6, 0),
-    refused(Up, "12 00 44 01 02 00 41 42 43 44 45 46 47 48 49 4A 4B 4C", 6, 0),
-    refused(Up, "0C 00 44 00 02 04 41 42 43 44 45 46", 6, 0),
-    refused(Up, "04 00 45 00", 6, 0),
+    refused(Down, "05 00 01 01 01", 6, 6),
+    refused(Down, "14 00 01 01 01 31 32 33 34 35 36 37 38 39 30 31 32 33 34 35", 6, 6),
+    refused(Down, "06 00 01 01 05 00", 6, 5),
+    refused(Up, "05 00 03 01 04", 6, 6),
+    refused(Up, "08 00 04 10 02 26 00 00", 6, 9),
+    refused(Down, "04 00 12 00", 6, 3),
+    refused(Up, "05 00 43 00 02", 6, 7),
+    refused(Up, "06 00 43 00 02 16", 6, 7),
+    refused(Up, "08 00 43 00 02 16 00 16", 6, 7),
+    refused(Up, "17 00 43 00 02 01 00 02 00 03 00 04 00 05 00 06 00 07 00 08 00 09 00", 6, 7),
+    refused(Up, "12 00 44 01 02 00 41 42 43 44 45 46 47 48 49 4A 4B 4C", 6, 7),
+    refused(Up, "0C 00 44 00 02 04 41 42 43 44 45 46", 6, 7),
+    refused(Up, "04 00 45 00", 6, 5),
     // The size is judged before the fields, and fields are judged left to right.
-    refused(Up, "07 00 01 02 06 02 00", 6, 0),
-    refused(Down, "0B 00 41 00 10 01 00 00 00 02 00", 6, 0),
+    refused(Up, "07 00 01 02 06 02 00", 6, 6),
+    refused(Down, "0B 00 41 00 10 01 00 00 00 02 00", 6, 10),
     refused(Down, "0A 00 41 00 10 01 00 00 00 02", 7, 4),
     refused(Down, "0A 00 41 00 0F 01 00 00 00 02", 7, 9),
     refused(Down, "06 00 22 00 10 06", 7, 4),

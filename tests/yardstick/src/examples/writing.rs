@@ -52,8 +52,8 @@ const fn short(way: Way, form: Form, values: &'static [u64], open: &'static [u8]
     }
 }
 
-/// Messages that writing refuses: the order of the refusals, the edges of sizes, lists and widths. What is accepted is
-/// in the examples of the forms.
+/// Messages that writing refuses: the order of the refusals, the edges of sizes, lists and widths. What 6 tells is the
+/// size that was wanted. What is accepted is in the examples of the forms.
 #[rustfmt::skip]
 pub const WRITING: &[Unwritten] = &[
     // The way comes first, before fields, open bytes and the output, however wide the numbers are.
@@ -120,33 +120,64 @@ pub const WRITING: &[Unwritten] = &[
     refused(Up, Form::PortCombinations, &[300, 256 + 2, 300, 0, 0, 0, 0, 0, 0, 0, 0], 7, 4),
     refused(Up, Form::ModeBias, &[300, 300, 256 + 7, 300], 7, 5),
     refused(Down, Form::VirtualDisconnect, &[256, 300], 7, 3),
-    // Open bytes that a form doesn't have.
-    refused_open(Down, Form::LockStatusRequest, &[], b"x", 6, 0),
-    refused_open(Down, Form::GoIntoBootMode, &[], b"LPF2-Boot", 6, 0),
-    refused_open(Down, Form::PropertyCommand, &[1, 2], b"x", 6, 0),
-    refused_open(Up, Form::PortCombinations, &[0, 2, 1, 0, 0, 0, 0, 0, 0, 0, 0], b"xx", 6, 0),
-    refused_open(Down, Form::InputFormatSetup, &[0, 16, 1, 2], b"x", 6, 0),
-    // Too few open bytes, and too many.
-    refused_open(Down, Form::PropertyText, &[1, 1], b"", 6, 0),
-    refused_open(Down, Form::PropertyText, &[1, 1], &[b'x'; 15], 6, 0),
-    refused_open(Up, Form::PropertyText, &[8, 6], b"", 6, 0),
-    refused_open(Up, Form::PropertyText, &[9, 6], &[b'x'; 123], 6, 0),
-    refused_open(Up, Form::ModeText, &[0, 16, 0], b"", 6, 0),
-    refused_open(Up, Form::ModeText, &[0, 16, 0], &[b'x'; 12], 6, 0),
-    refused_open(Up, Form::ModeText, &[0, 16, 4], &[b'x'; 6], 6, 0),
-    refused_open(Up, Form::PortValue, &[0], b"", 6, 0),
-    refused_open(Up, Form::PortValue, &[0], &[b'x'; 124], 6, 0),
-    refused_open(Up, Form::PortValue, &[0], &[b'x'; 257], 6, 0),
-    // The count of a 43.
-    refused(Up, Form::PortCombinations, &[0, 2, 0, 1, 0, 0, 0, 0, 0, 0, 0], 6, 0),
-    refused(Up, Form::PortCombinations, &[0, 2, 9, 1, 0, 0, 0, 0, 0, 0, 0], 6, 0),
-    refused(Up, Form::PortCombinations, &[0, 2, 255, 1, 0, 0, 0, 0, 0, 0, 0], 6, 0),
-    refused(Up, Form::PortCombinations, &[0, 2, 300, 1, 0, 0, 0, 0, 0, 0, 0], 6, 0),
-    refused(Up, Form::PortCombinations, &[0, 2, 256 + 1, 1, 0, 0, 0, 0, 0, 0, 0], 6, 0),
-    refused(Up, Form::PortCombinations, &[300, 2, u64::MAX, 65_536, 0, 0, 0, 0, 0, 0, 0], 6, 0),
+    // Open bytes that a form doesn't have: its own size was wanted, of a list the one with a single entry.
+    refused_open(Down, Form::LockStatusRequest, &[], b"x", 6, 3),
+    refused_open(Down, Form::GoIntoBootMode, &[], b"LPF2-Boot", 6, 12),
+    refused_open(Down, Form::PropertyCommand, &[1, 2], b"x", 6, 5),
+    refused_open(Up, Form::PortCombinations, &[0, 2, 1, 0, 0, 0, 0, 0, 0, 0, 0], b"xx", 6, 7),
+    refused_open(Down, Form::InputFormatSetup, &[0, 16, 1, 2], b"x", 6, 10),
+    refused_open(Up, Form::PropertyByte, &[2, 6, 1], b"x", 6, 6),
+    refused_open(Up, Form::PropertyRssi, &[5, 6, 0], b"x", 6, 6),
+    refused_open(Up, Form::PropertyVersion, &[3, 6, 0], b"x", 6, 9),
+    refused_open(Up, Form::PropertyProtocol, &[10, 6, 0], b"x", 6, 7),
+    refused_open(Up, Form::PropertyAddress, &[13, 6, 0], b"x", 6, 11),
+    refused_open(Down, Form::HubAction, &[1], b"x", 6, 4),
+    refused_open(Up, Form::HubAction, &[0x30], b"x", 6, 4),
+    refused_open(Down, Form::AlertCommand, &[1, 3], b"x", 6, 5),
+    refused_open(Up, Form::AlertUpdate, &[1, 4, 0], b"x", 6, 6),
+    refused_open(Up, Form::Detached, &[0, 0], b"x", 6, 5),
+    refused_open(Up, Form::Attached, &[0, 1, 0x26, 0, 0], b"x", 6, 15),
+    refused_open(Up, Form::AttachedVirtual, &[16, 2, 0x26, 0, 1], b"x", 6, 9),
+    refused_open(Up, Form::GenericError, &[0x41, 5], b"x", 6, 5),
+    refused_open(Down, Form::LockMemory, &[], b"Lock Mem", 6, 11),
+    refused_open(Up, Form::LockStatus, &[0xFF], b"x", 6, 4),
+    refused_open(Down, Form::PortInformationRequest, &[0, 1], b"x", 6, 5),
+    refused_open(Down, Form::ModeInformationRequest, &[0, 2, 0x80], b"x", 6, 6),
+    refused_open(Up, Form::PortModes, &[0, 1, 7, 4, 15, 15], b"x", 6, 11),
+    refused_open(Up, Form::PortCombinations, &[0, 2, 3, 1, 2, 3, 0, 0, 0, 0, 0], b"x", 6, 7),
+    refused_open(Up, Form::PortCombinations, &[0, 2, 8, 1, 2, 3, 4, 5, 6, 7, 8], &[b'x'; 124], 6, 7),
+    refused_open(Up, Form::ModeRange, &[0, 0, 1, 0, 0x4348_0000], b"x", 6, 14),
+    refused_open(Up, Form::ModeMapping, &[0, 2, 5, 0x10], b"x", 6, 8),
+    refused_open(Up, Form::ModeBias, &[0, 1, 7, 100], b"x", 6, 7),
+    refused_open(Up, Form::ModeCapabilities, &[0, 2, 8, 0x40], b"x", 6, 12),
+    refused_open(Up, Form::ValueFormat, &[0, 2, 0x80, 1, 2, 4, 0], b"x", 6, 10),
+    refused_open(Up, Form::InputFormat, &[0, 2, 1, 1], &[b'x'; 124], 6, 10),
+    refused_open(Down, Form::VirtualDisconnect, &[0, 16], b"x", 6, 5),
+    refused_open(Down, Form::VirtualConnect, &[1, 0, 1], b"x", 6, 6),
+    // Too few open bytes, and too many: the size with one of them was wanted.
+    refused_open(Down, Form::PropertyText, &[1, 1], b"", 6, 6),
+    refused_open(Down, Form::PropertyText, &[1, 1], &[b'x'; 15], 6, 6),
+    refused_open(Up, Form::PropertyText, &[8, 6], b"", 6, 6),
+    refused_open(Up, Form::PropertyText, &[9, 6], &[b'x'; 123], 6, 6),
+    refused_open(Up, Form::ModeText, &[0, 16, 0], b"", 6, 7),
+    refused_open(Up, Form::ModeText, &[0, 16, 0], &[b'x'; 12], 6, 7),
+    refused_open(Up, Form::ModeText, &[0, 16, 4], &[b'x'; 6], 6, 7),
+    refused_open(Up, Form::PortValue, &[0], b"", 6, 5),
+    refused_open(Up, Form::PortValue, &[0], &[b'x'; 124], 6, 5),
+    refused_open(Up, Form::PortValue, &[0], &[b'x'; 257], 6, 5),
+    refused_open(Up, Form::ModeText, &[0, 2, 4], b"", 6, 7),
+    refused_open(Up, Form::PropertyText, &[1, 6], &[b'x'; 122], 6, 6),
+    // The count of a 43: the size of a list with one entry was wanted.
+    refused(Up, Form::PortCombinations, &[0, 2, 0, 1, 0, 0, 0, 0, 0, 0, 0], 6, 7),
+    refused(Up, Form::PortCombinations, &[0, 2, 9, 1, 0, 0, 0, 0, 0, 0, 0], 6, 7),
+    refused(Up, Form::PortCombinations, &[0, 2, 255, 1, 0, 0, 0, 0, 0, 0, 0], 6, 7),
+    refused(Up, Form::PortCombinations, &[0, 2, 300, 1, 0, 0, 0, 0, 0, 0, 0], 6, 7),
+    refused(Up, Form::PortCombinations, &[0, 2, 256 + 1, 1, 0, 0, 0, 0, 0, 0, 0], 6, 7),
+    refused(Up, Form::PortCombinations, &[300, 2, u64::MAX, 65_536, 0, 0, 0, 0, 0, 0, 0], 6, 7),
+    refused_open(Up, Form::PortCombinations, &[0, 2, 9, 1, 0, 0, 0, 0, 0, 0, 0], b"xx", 6, 7),
     // Open bytes before fields that are too wide.
-    refused_open(Up, Form::Detached, &[300, 0], b"x", 6, 0),
-    refused_open(Up, Form::ModeText, &[300, 300, 0], b"", 6, 0),
+    refused_open(Up, Form::Detached, &[300, 0], b"x", 6, 5),
+    refused_open(Up, Form::ModeText, &[300, 300, 0], b"", 6, 7),
     // Fields, left to right.
     refused(Up, Form::PropertyByte, &[2, 6, 2], 7, 5),
     refused(Up, Form::PropertyByte, &[6, 6, 101], 7, 5),
