@@ -15,7 +15,7 @@ use Rattle.protocol.specs.Field.{Field, Value, natural, widths, Fields, 
 use Rattle.protocol.specs.Field as Field'
 use Rattle.protocol.specs.Form
 use Rattle.protocol.specs.Form.{Form, Rest, nothing, openRun, words, layout, fits, wordsFrom, upFrom, readRest, openBytes, code}
-use Rattle.protocol.specs.Decode.{accepted, wrongSize, header, fieldsEnd, sizeFits, smallestSize, valuesOrRefusal, decodeForm}
+use Rattle.protocol.specs.Decode.{accepted, wrongSize, header, fieldsEnd, sizeFits, valuesOrRefusal, decodeForm}
 use Rattle.protocol.specs.Encode.{encoded, Written, wrote, before, writeFields, restFits, writeRest, thenRest, framed, closed, afterFields, encodeForm, settleRest, settledValues}
 use Rattle.protocol.specs.Encode as Encode'
 use Rattle.protocol.proofs.Tests.{which, and-left, and-right}

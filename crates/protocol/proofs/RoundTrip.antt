@@ -1,21 +1,19 @@
 -- Demand 2: what reading accepts, writing gives back byte for byte; what writing accepts, reading gives back field for field.
-use Prim.Native.Nat.{ℕ, _+_, _*_, _-_, _%_, _≤_, _<_}
+use Prim.Native.Nat.{ℕ, _+_, _-_, _≤_, _<_}
 use native.Mathlib.Omega.{arith}
 use mathlib.Core.Path.{_≡_, refl, sym, _∙_, ap}
-use mathlib.Core.Bool.{Bool, true, false, cond, _&&_}
+use mathlib.Core.Bool.{Bool, true, false, cond}
 use mathlib.Core.List.{List, [], _∷_}
-use mathlib.Core.Logic.{⊎-elim}
 use mathlib.Core.Option.{Option, none, some}
-use borrow.Author.Tests.{eqb-true, eq-eqb, ne-eqb, leb-true, ltb-false, le-ltb}
-use lib.Dec.{eqb, leb, ltb}
+use borrow.Author.Tests.{eqb-true, eq-eqb, ne-eqb, ltb-false, le-ltb}
+use lib.Dec.{eqb, ltb}
 use lib.ListN.{length, getD, take, drop}
 use lib.Seq.{getD-take, getD-drop}
 use Rattle.protocol.specs.Number.{Bytes}
 use Rattle.protocol.specs.Field.{Field, Value, natural, Fields, values, widths, andThen, readFields}
 use Rattle.protocol.specs.Field as Field'
 use Rattle.protocol.specs.Form
-use Rattle.protocol.specs.Form.{Form, Rest, nothing, openRun, words, layout, longestModeText, fits, readRest, openBytes, code, formNumber, formsBy, argument, sameForm}
-use Rattle.protocol.specs.Properties.{longest}
+use Rattle.protocol.specs.Form.{Form, layout, readRest, openBytes, code, formNumber, formsBy, argument, sameForm}
 use Rattle.protocol.specs.Types.{Selection, always, select, MessageType, selectors, types, typeOf}
 use Rattle.protocol.specs.Decode.{Answer, accepted, header, fieldsEnd, sizeFits, smallestSize, selectorsSize, longestMessage, valuesOrRefusal, decodeForm, decodeSelection, decodeType, decodeTyped, decodeWay, decode, openOf, openPart}
 use Rattle.protocol.specs.Decode as Decode'
@@ -27,7 +25,7 @@ use Rattle.protocol.specs.declared.Combinations.{Combinations}
 use Rattle.protocol.specs.declared.Message.{Message}
 use Rattle.protocol.specs.declared.Message.the-variants as Message'
 use Rattle.protocol.specs.declared.Way.{Way}
-use Rattle.protocol.proofs.Tests.{which, and-left, and-right}
+use Rattle.protocol.proofs.Tests.{and-left, and-right}
 use Rattle.protocol.proofs.FormTrip.{was-read, form-written, Shaped, form-read}
 use Rattle.protocol.proofs.Selection.{headed as head, typed, long-enough}
 use Rattle.protocol.proofs.Sizes.{short}

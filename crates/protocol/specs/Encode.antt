@@ -11,7 +11,7 @@ use lib.Ieee as Ieee
 use lib.ListN.{length, take, drop, replicate}
 use Rattle.protocol.specs.Number.{isFinite}
 use Rattle.protocol.specs.Rule.{any, between}
-use Rattle.protocol.specs.Field.{Field, number, highFirst, signed, float, fixed, Value, natural, integer, real, width, widths}
+use Rattle.protocol.specs.Field.{Field, number, highFirst, signed, float, fixed, Value, natural, integer, real, width}
 use Rattle.protocol.specs.Form.{Form, code, sameForm, Rest, nothing, openRun, words, Layout, layout}
 use Rattle.protocol.specs.Types.{Selection, always, select, MessageType, types, typeOf}
 use Rattle.protocol.specs.Decode.{header, fieldsEnd, smallestSize, selectorsSize}

@@ -1,6 +1,6 @@
 -- The number that stands for wider ones is in no list of document 01: a statement about the layouts and the selectors, proved in
 -- proofs/WideNumbers.antt. So a wider number in a field that has a list is outside of it.
-use Prim.Native.Nat.{ℕ, _-_, _^_, _<_}
+use Prim.Native.Nat.{ℕ, _^_, _<_}
 use mathlib.Core.Path.{_≡_}
 use mathlib.Core.Bool.{true, false}
 use mathlib.Core.List.{List, [], _∷_}

@@ -31,6 +31,7 @@ read: port 0, mode 2
 written: 0C 00 01 01 01 42 65 6E 63 68 20 37
 read: name Bench 7
 refusal 7, place 4
+refusal 6, place 6
 ";
 const PORT_TABLE: &str = "\
 refusal 14, place 0
