@@ -22,7 +22,7 @@ extern "C" {
 /* ---- Calls ----
  *
  * Every call returns one number. Its high half is the refusal, 0 if the call is accepted. Its low half is the place of
- * the refusal in the message, or the size that it should have (6); or, accepted, how much was written: bytes of a
+ * the refusal in the message, or the size that is wanted (6); or, accepted, how much was written: bytes of a
  * message or of text, cells of a row, datasets, ports. A refused call changes nothing that was lent to it.
  *
  * What is lent to a call is a pointer and a length, counted in elements and not in bytes. A pointer may be NULL if its

@@ -33,7 +33,7 @@ pub const MOST_PORTS: usize = 16;
 pub const RECORD: usize = 136;
 pub const LINE_ROOM: usize = 462;
 
-/// A refusal: its number, one of `refused`, and its place in the message, or the size that it should have.
+/// A refusal: its number, one of `refused`, and its place in the message, or the size that is wanted.
 #[derive(Clone, Copy, Debug, PartialEq, Eq)]
 pub struct Refused {
     pub number: u32,

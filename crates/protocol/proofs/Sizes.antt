@@ -102,6 +102,10 @@ bounded Form.virtualConnect = (omega arith, omega arith)
 pub smallest-size : SmallestSize
 smallest-size f = (least-fits (layout f .rest) (fieldsEnd f) (bounded f .0), fits-least (layout f .rest) (fieldsEnd f))
 
+-- every size has room for the fields
+pub room : (f : Form) (n : ℕ) → sizeFits f n ≡ true → fieldsEnd f ≤ n
+room f n e = omega (arith, smallest-size f .1 n e)
+
 -- no size is more than the longest message
 pub short : (f : Form) (n : ℕ) → sizeFits f n ≡ true → n ≤ longestMessage
 short f n e = omega (arith, fits-greatest (layout f .rest) (fieldsEnd f) n e, bounded f .1)

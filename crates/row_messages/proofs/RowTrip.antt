@@ -1,27 +1,26 @@
 -- The row that reading fills is the message, and writing it gives back the bytes.
-use Prim.Native.Nat.{ℕ, zero, suc, _+_, _*_, _-_, _/_, _%_, _≤_, _<_}
+use Prim.Native.Nat.{ℕ, zero, suc, _+_, _-_, _/_, _≤_, _<_}
 use native.Mathlib.Omega.{arith}
 use mathlib.Core.Path.{_≡_, refl, _∙_, ap}
-use mathlib.Core.Bool.{Bool, true, _&&_}
+use mathlib.Core.Bool.{Bool, true}
 use mathlib.Core.List.{List, [], _∷_, _++_, map}
-use borrow.Author.Tests.{eq-eqb, eqb-true, leb-true}
-use lib.Dec.{eqb, leb}
+use borrow.Author.Tests.{eq-eqb}
 use lib.ListN.{length, getD, drop, length-append}
 use Rattle.protocol.specs.Number.{Bytes}
 use Rattle.protocol.specs.Field.{Value, natural, values, widths}
 use Rattle.protocol.specs.Form
-use Rattle.protocol.specs.Form.{Form, formNumber, Rest, nothing, openRun, words, layout, fits, readRest, wordsFrom, upFrom}
-use Rattle.protocol.specs.Decode.{accepted, header, decodeForm, decode, openPart}
+use Rattle.protocol.specs.Form.{Form, formNumber, Rest, nothing, openRun, words, layout, readRest, wordsFrom, upFrom}
+use Rattle.protocol.specs.Decode.{accepted, header, fieldsEnd, decodeForm, decode, openPart}
 use Rattle.protocol.specs.Answer.{formOf, valuesOf, messageOf}
 use Rattle.protocol.specs.Encode.{encoded, encodeValues, encode, writeFields, wrote}
 use Rattle.protocol.specs.declared.Message.{Message}
 use Rattle.protocol.specs.declared.Way.{Way}
 use Rattle.protocol.proofs.Answers.{message-back}
-use Rattle.protocol.proofs.Tests.{and-left}
 use Rattle.protocol.proofs.Bytes.{part}
 use Rattle.protocol.proofs.FieldsTrip.{fields-written}
 use Rattle.protocol.proofs.FormTrip.{proper, was-read}
 use Rattle.protocol.proofs.RoundTrip.{headed, form-accepted, read-then-written}
+use Rattle.protocol.proofs.Sizes.{room}
 use Rattle.selectors.specs.Choice.{formAt}
 use Rattle.message_rows.specs.Row.{rowSize, beforeValues, numberOf, padded, valueNumbers, acceptedRow}
 use Rattle.row_messages.proofs.Answering.{of-form}
@@ -114,12 +113,6 @@ numbered Form.virtualConnect = record { least = omega arith; most = omega arith;
 
 -- ---- what reading gives
 
-end-fits : (r : Rest) (end size : ℕ) → fits r end size ≡ true → end ≤ size
-end-fits nothing end size e = omega (arith, eqb-true size end e)
-end-fits (openRun least most) end size e = omega (arith, leb-true (end + least) size (and-left (leb (end + least) size) (leb size (end + most)) e))
-end-fits (words most) end size e =
-    omega (arith, leb-true (end + 2) size (and-left (leb (end + 2) size) (leb size (end + 2 * most)) (and-left (leb (end + 2) size && leb size (end + 2 * most)) (eqb ((size - end) % 2) 0) e)))
-
 -- the first byte is one
 first-byte : (s : List ℕ) → Bytes s → getD s 0 0 < 256
 first-byte [] b = omega arith
@@ -127,13 +120,12 @@ first-byte (x ∷ xs) b = b .0
 
 module _ (row s : List ℕ) (b : Bytes s) (short : length s < 256) where
   -- what follows the fields
-  rest-back : (r : Rest) (end : ℕ) → fits r end (length s) ≡ true → (ws : List Value) → readRest s end r ≡ values ws → (j : ℕ) → Numbers (drop j row) ws → narrowAll (wordFields r) row j ≡ ws
-  rest-back nothing end e ws k j ns = cc
-  rest-back (openRun least most) end e ws k j ns = cc
-  rest-back (words most) end e ws k j ns =
+  rest-back : (r : Rest) (end : ℕ) → end ≤ length s → (ws : List Value) → readRest s end r ≡ values ws → (j : ℕ) → Numbers (drop j row) ws → narrowAll (wordFields r) row j ≡ ws
+  rest-back nothing end large ws k j ns = cc
+  rest-back (openRun least most) end large ws k j ns = cc
+  rest-back (words most) end large ws k j ns =
       let count : ℕ = (length s - end) / 2 in
       let is : ws ≡ natural count ∷ wordsFrom s end count (upFrom 0 most) = cc in
-      let large : end ≤ length s = end-fits (words most) end (length s) e in
       rw is (list-back row s b end count (omega arith) most j (omega arith) (rw is at ns))
 
   -- the values of a form come back from their numbers
@@ -142,11 +134,11 @@ module _ (row s : List ℕ) (b : Bytes s) (short : length s < 256) where
   values-read f vs e ns =
       let read = was-read f s vs e in
       let both = read .both in
-      let end : ℕ = header + widths (layout f .fields) in
+      let large : fieldsEnd f ≤ length s = room f (length s) (read .size) in
       let wrote-fields : writeFields header (layout f .fields) vs ≡ wrote (part s header (widths (layout f .fields))) (both .second) =
-      ap (writeFields header (layout f .fields)) (both .joined) ∙ fields-written (layout f .fields) (proper f) s header b (end-fits (layout f .rest) end (length s) (read .size)) (both .first) (both .second) (both .first-is) header
+      ap (writeFields header (layout f .fields)) (both .joined) ∙ fields-written (layout f .fields) (proper f) s header b large (both .first) (both .second) (both .first-is) header
       in
-      fields-back row (layout f .fields) (wordFields (layout f .rest)) (slim f) header beforeValues vs _ (both .second) wrote-fields ns (rest-back (layout f .rest) end (read .size) (both .second) (both .second-is))
+      fields-back row (layout f .fields) (wordFields (layout f .rest)) (slim f) header beforeValues vs _ (both .second) wrote-fields ns (rest-back (layout f .rest) (fieldsEnd f) large (both .second) (both .second-is))
 
 -- ---- the row
 
