@@ -6,31 +6,31 @@ ghost use mathlib.Core.Path.{_≡_};
 ghost use Prim.Native.Nat.{_≤_};
 ghost use Rattle.protocol.specs.Properties as Properties;
 
-// Which operation (columns 1 to 6: Set, Enable, Disable, Reset, Request, Update) each hub property
-// (rows 1 to 15) permits.
-const PERMITTED: [[bool; 6]; 15] = [
-    [true, true, true, true, true, true],
-    [false, true, true, false, true, true],
-    [false, false, false, false, true, true],
-    [false, false, false, false, true, true],
-    [false, true, true, false, true, true],
-    [false, true, true, false, true, true],
-    [false, false, false, false, true, true],
-    [false, false, false, false, true, true],
-    [false, false, false, false, true, true],
-    [false, false, false, false, true, true],
-    [false, false, false, false, true, true],
-    [true, false, false, true, true, true],
-    [false, false, false, false, true, true],
-    [false, false, false, false, true, true],
-    [true, false, false, false, true, true],
+// The operations that each hub property (1 to 15) permits, a byte of bits for each: bit 0 is Set, bit 1
+// Enable, bit 2 Disable, bit 3 Reset, bit 4 Request and bit 5 Update.
+const PERMITTED: [u8; 15] = [
+    0b111111, // 1 name
+    0b110110, // 2 button
+    0b110000, // 3 firmware version
+    0b110000, // 4 hardware version
+    0b110110, // 5 RSSI
+    0b110110, // 6 battery voltage
+    0b110000, // 7 battery type
+    0b110000, // 8 manufacturer name
+    0b110000, // 9 radio firmware version
+    0b110000, // 10 protocol version
+    0b110000, // 11 system type
+    0b111001, // 12 network id
+    0b110000, // 13 primary MAC address
+    0b110000, // 14 secondary MAC address
+    0b110001, // 15 network family
 ];
 
 fn permits(property: usize, operation: usize) -> bool
     requires { ⌜ ((1 ≤ property) × (property ≤ 15)) × ((1 ≤ operation) × (operation ≤ 6)) ⌝ }
     ensures { λ r. ⌜ r ≡ Properties.permits property operation ⌝ }
 {
-    PERMITTED[property - 1][operation - 1]
+    PERMITTED[property - 1] >> (operation - 1) & 1 == 1
 }
 
 // Which way an operation goes: 1 to 5 down, 6 up.
