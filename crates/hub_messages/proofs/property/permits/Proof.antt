@@ -3,7 +3,6 @@ use native.Mathlib.Omega.{arith}
 use mathlib.Core.Path.{_≡_, refl}
 use mathlib.Core.Bool.{Bool, true, false}
 use mathlib.Core.List.{List, [], _∷_}
-use mathlib.Core.Unit.{𝟙, tt}
 use borrow.Author.Needs.{needs}
 use lib.Bits.{bitAnd}
 use lib.Dec.{eqb}
@@ -22,10 +21,10 @@ abbrev bit : ℕ → ℕ → Bool
 bit byte i = eqb (bitAnd (byte / 2 ^ i) 1) 1
 
 -- a place for each operation
-abbrev six : List 𝟙
+abbrev six : List (Unit {0})
 six = replicate 6 tt
 
-abbrev cell : ℕ → ℕ → ℕ → 𝟙 → Bool
+abbrev cell : ℕ → ℕ → ℕ → Unit {0} → Bool
 cell i byte j u = same (bit byte j) (permits (suc i) (suc j))
 
 -- the six bits of a property's byte are what the rule says
