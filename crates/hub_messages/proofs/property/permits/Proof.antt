@@ -1,9 +1,10 @@
 use Prim.Native.Nat.{ℕ, suc, _-_, _/_, _^_, _≤_}
 use native.Mathlib.Omega.{arith}
 use mathlib.Core.Path.{_≡_, refl}
-use mathlib.Core.Bool.{Bool, true, false}
-use mathlib.Core.List.{List, [], _∷_}
+use mathlib.Core.Bool.{Bool, true}
+use mathlib.Core.List.{List}
 use borrow.Author.Needs.{needs}
+use borrow.Table.Row.{get}
 use lib.Bits.{bitAnd}
 use lib.Dec.{eqb}
 use lib.ListN.{length, getD, replicate}
@@ -11,10 +12,8 @@ use Rattle.protocol.specs.Properties.{permits}
 use Rattle.protocol.proofs.Table.{every, entry, same, same-eq}
 use Rattle.hub_messages.proofs.property.permits.Statement.{statement}
 use Rattle.hub_messages.proofs.property.permits.Tie as tie
-
--- the constant
-abbrev permitted : List ℕ
-permitted = 63 ∷ 54 ∷ 48 ∷ 48 ∷ 54 ∷ 54 ∷ 48 ∷ 48 ∷ 48 ∷ 48 ∷ 48 ∷ 57 ∷ 48 ∷ 48 ∷ 49 ∷ []
+use Rattle.hub_messages.proofs.property.permits.Reads as reads
+use Rattle.hub_messages.proofs.property.permits.Lts as lts
 
 -- bit i of a byte
 abbrev bit : ℕ → ℕ → Bool
@@ -58,7 +57,10 @@ shr-result c = search needs
 
 returns : tie.Need-returns
 unfolding permits
-returns c = rule permitted refl refl (c .args .property) (c .args .operation) (search needs) (search needs) (search needs) (search needs)
+returns c =
+    -- the constant, as the code has laid it
+    let table : List ℕ = get 3 (lts.T2 .locals) (lts.m1 reads.Pre reads.Post (c .args) (c .blocks)) in
+    rule table refl refl (c .args .property) (c .args .operation) (search needs) (search needs) (search needs) (search needs)
 
 pub permits-spec : {M : Type 1} → statement M
 permits-spec = tie.close (tie.spec sub-result array-read-result sub-result-2 cast-result shr-result returns)
