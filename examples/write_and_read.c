@@ -1,4 +1,4 @@
-/* Writes two messages to the hub, shows their bytes and reads them back. Two more are refused. */
+/* Writes two messages to the hub, shows their bytes and reads them back. Three more are refused. */
 
 #include <stdio.h>
 
@@ -37,6 +37,7 @@ int main(void)
 {
     uint64_t setup[CASTANETASH_ROW_CELLS] = {0};
     uint64_t name[CASTANETASH_ROW_CELLS] = {0};
+    uint64_t lock[CASTANETASH_ROW_CELLS] = {0};
     uint8_t message[CASTANETASH_LONGEST];
 
     /* Port Input Format Setup (Single), 41. It has no open bytes. */
@@ -65,5 +66,9 @@ int main(void)
 
     /* A name has a byte or more. The refusal says the smallest size of such a message. */
     write_and_read(name, NULL, 0, message);
+
+    /* Lock Status Request, 12, is read only. */
+    lock[CASTANETASH_ROW_FORM] = CASTANETASH_FORM_LOCK_STATUS_REQUEST;
+    write_and_read(lock, NULL, 0, message);
     return 0;
 }

@@ -1,4 +1,4 @@
-//! Writes two messages to the hub, shows their bytes and reads them back. Two more are refused.
+//! Writes two messages to the hub, shows their bytes and reads them back. Three more are refused.
 
 #[path = "../include/castanetash.rs"]
 mod castanetash;
@@ -52,6 +52,13 @@ fn both() -> Result<(), Refused> {
 
     // A name has a byte or more. The refusal says the smallest size of such a message.
     if let Err(refused) = write_and_read(&mut name, &[]) {
+        println!("{refused}");
+    }
+
+    // Lock Status Request, 12, is read only.
+    let mut lock = [0; ROW_CELLS];
+    lock[row::FORM] = form::LOCK_STATUS_REQUEST;
+    if let Err(refused) = write_and_read(&mut lock, &[]) {
         println!("{refused}");
     }
     Ok(())

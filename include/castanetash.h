@@ -71,6 +71,7 @@ enum castanetash_refusal {
     CASTANETASH_REFUSED_NO_DATASET = 17,   /* no dataset of that number; any message but a value has none */
     CASTANETASH_REFUSED_NOT_FINITE = 18,   /* a float dataset is an infinity or a NaN */
     CASTANETASH_REFUSED_LOG_RECORD = 19,   /* a log's record is malformed: only in the text of castanetash_read_block */
+    CASTANETASH_REFUSED_READ_ONLY = 23,    /* castanetash_write is given a form that is read only */
     CASTANETASH_REFUSED_ROW = 255          /* a lent row is too short for the answer; or castanetash_write is given a
                                               row that is no message's own */
 };
@@ -104,6 +105,7 @@ uint64_t castanetash_read(const uint8_t *message, size_t message_len, uint8_t wa
  * Refused, with places in the message to be written:
  *   255 if the row has fewer than 16 cells, or an unknown form;
  *   5 if the form's type doesn't go this way;
+ *   23 if the form is read only, whatever else is lent;
  *   7 for its selectors from left to right, one wider than its byte too; and at the last of them if they lead to
  *     another form than the row's;
  *   6 if there are too few or too many open bytes, or any for a form without them, or the count of a list (43) is not
@@ -117,7 +119,8 @@ uint64_t castanetash_write(const uint64_t *row, size_t row_len, uint8_t way, con
 
 /* ---- Forms ----
  *
- * One for each layout that a message can have, with its type, its way and its whole size. */
+ * One for each layout that a message can have, with its type, its way and its whole size. Those marked read only are
+ * read, and no longer written (23). */
 enum castanetash_form {
     /* Hub Properties */
     CASTANETASH_FORM_PROPERTY_COMMAND = 1,  /* 01 down, 5 bytes */
@@ -140,9 +143,9 @@ enum castanetash_form {
     CASTANETASH_FORM_GENERIC_ERROR = 14, /* 05 up, 5 bytes */
     /* Firmware Update: Go Into Boot Mode, Lock Memory, Lock Status Request, Lock Status */
     CASTANETASH_FORM_GO_INTO_BOOT_MODE = 15,   /* 10 down, 12 bytes */
-    CASTANETASH_FORM_LOCK_MEMORY = 16,         /* 11 down, 11 bytes */
-    CASTANETASH_FORM_LOCK_STATUS_REQUEST = 17, /* 12 down, 3 bytes */
-    CASTANETASH_FORM_LOCK_STATUS = 18,         /* 13 up, 4 bytes */
+    CASTANETASH_FORM_LOCK_MEMORY = 16,         /* 11 down, 11 bytes, read only */
+    CASTANETASH_FORM_LOCK_STATUS_REQUEST = 17, /* 12 down, 3 bytes, read only */
+    CASTANETASH_FORM_LOCK_STATUS = 18,         /* 13 up, 4 bytes, read only */
     /* Port Information Request, Port Mode Information Request */
     CASTANETASH_FORM_PORT_INFORMATION_REQUEST = 19, /* 21 down, 5 bytes */
     CASTANETASH_FORM_MODE_INFORMATION_REQUEST = 20, /* 22 down, 6 bytes */

@@ -167,6 +167,8 @@ pub mod refused {
     pub const NOT_FINITE: u32 = 18;
     /// A log's record is malformed: only in the text of `read_block`.
     pub const LOG_RECORD: u32 = 19;
+    /// `write` is given a form that is read only.
+    pub const READ_ONLY: u32 = 23;
     /// A lent row is too short for the answer; or `write` is given a row that is no message's own.
     pub const ROW: u32 = 255;
 }
@@ -185,7 +187,8 @@ pub mod row {
     pub const VALUES: usize = 4;
 }
 
-/// The forms, each with its type in hex, its way and its whole size.
+/// The forms, each with its type in hex, its way and its whole size. Those marked read only are read, and no longer
+/// written.
 pub mod form {
     // Hub Properties
     /// 01 down, 5 bytes.
@@ -228,11 +231,11 @@ pub mod form {
     // Firmware Update: Go Into Boot Mode, Lock Memory, Lock Status Request, Lock Status
     /// 10 down, 12 bytes.
     pub const GO_INTO_BOOT_MODE: u64 = 15;
-    /// 11 down, 11 bytes.
+    /// 11 down, 11 bytes, read only.
     pub const LOCK_MEMORY: u64 = 16;
-    /// 12 down, 3 bytes.
+    /// 12 down, 3 bytes, read only.
     pub const LOCK_STATUS_REQUEST: u64 = 17;
-    /// 13 up, 4 bytes.
+    /// 13 up, 4 bytes, read only.
     pub const LOCK_STATUS: u64 = 18;
 
     // Port Information Request, Port Mode Information Request

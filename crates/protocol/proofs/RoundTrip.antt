@@ -14,12 +14,12 @@ use Rattle.protocol.specs.Field.{Field, Value, natural, Fields, values, 
 use Rattle.protocol.specs.Field as Field'
 use Rattle.protocol.specs.Form
 use Rattle.protocol.specs.Form.{Form, layout, readRest, openBytes, code, formNumber, formsBy, argument, sameForm}
-use Rattle.protocol.specs.Types.{Selection, always, select, MessageType, selectors, types, typeOf}
+use Rattle.protocol.specs.Types.{Selection, always, select, MessageType, selectors, types, typeOf, readOnly}
 use Rattle.protocol.specs.Decode.{Answer, accepted, header, fieldsEnd, sizeFits, smallestSize, selectorsSize, longestMessage, valuesOrRefusal, decodeForm, decodeSelection, decodeType, decodeTyped, decodeWay, decode, openOf, openPart}
 use Rattle.protocol.specs.Decode as Decode'
 use Rattle.protocol.specs.Answer.{naturalAt, formOf, valuesOf}
 use Rattle.protocol.specs.Encode.{Encoded, encoded, framed, afterFields, encodeForm, encodeSelection, encodeTyped, encodeValues, encode, settledValues}
-use Rattle.protocol.specs.RoundTrip.{settled, ReadThenWritten, WrittenThenRead, RefusedOnly}
+use Rattle.protocol.specs.RoundTrip.{settled, ReadThenWritten, MemoryLockRefused, WrittenThenRead, RefusedOnly}
 use Rattle.protocol.specs.Encode as Encode'
 use Rattle.protocol.specs.declared.Combinations.{Combinations}
 use Rattle.protocol.specs.declared.Message.{Message}
@@ -173,9 +173,9 @@ framed-back (x ∷ y ∷ z ∷ s) c h a b d =
     let front : framed c s ≡ x ∷ 0 ∷ c ∷ s = ap (λ (n : ℕ). n ∷ 0 ∷ c ∷ s) size in
     front ∙ ap (λ (n : ℕ). x ∷ n ∷ c ∷ s) (sym b) ∙ ap (λ (n : ℕ). x ∷ y ∷ n ∷ s) (sym d)
 
-pub values-written : (way : Way) (s : List ℕ) → Bytes s → (f : Form) (vs : List Value) → decode way s ≡ accepted f vs → encodeValues way f vs (openPart way s) ≡ encoded s
+pub values-written : (way : Way) (s : List ℕ) → Bytes s → (f : Form) (vs : List Value) → readOnly (code f) ≡ false → decode way s ≡ accepted f vs → encodeValues way f vs (openPart way s) ≡ encoded s
 unfolding encodeValues openPart
-values-written way s b f vs e =
+values-written way s b f vs kept e =
     let h = headed way s f vs e in
     let t = type-found way s f vs (h .rest) in
     let type : MessageType = t .type in
@@ -184,9 +184,13 @@ values-written way s b f vs e =
     let found : typeOf (code f) (types way) ≡ some type = ap (λ (k : ℕ). typeOf k (types way)) (ch .fit .0) ∙ t .found in
     let written : encodeForm f vs opens ≡ encoded (framed (code f) (drop header s)) = form-written f s b vs (ch .form) in
     let bytes : framed (code f) (drop header s) ≡ s = framed-back s (code f) (h .least) (h .size) (h .hub) (sym (ch .fit .0)) in
-    rw (found, e) (ch .writes (selectorsSize type - 1) opens ∙ written ∙ ap encoded bytes)
+    rw (found, kept, e) (ch .writes (selectorsSize type - 1) opens ∙ written ∙ ap encoded bytes)
 
 -- ---- what was written is read back
+
+not-refused-encoded : (b : Bool) (n p : ℕ) (x : Encoded) (t : List ℕ) → cond b (Encode'.refused n p) x ≡ encoded t → x ≡ encoded t
+not-refused-encoded true n p x t e = let z : _≡_ {A = ℕ} 0 1 = cc in absurd (omega arith)
+not-refused-encoded false n p x t e = e
 
 not-else-encoded : (b : Bool) (n p : ℕ) (x : Encoded) (t : List ℕ) → cond b x (Encode'.refused n p) ≡ encoded t → (b ≡ true) × (x ≡ encoded t)
 not-else-encoded true n p x t e = (refl, e)
@@ -221,7 +225,8 @@ values-read way f vs opens t shape e = go (typeOf (code f) (types way)) refl e
     go none k g = let z : _≡_ {A = ℕ} 0 1 = cc in absurd (omega arith)
     go (some type) k g =
         let fs : List Field = layout f .fields in
-        let fo = followed (code f) (selectors type) type (leads way (code f) type k) f (selectorsSize type - 1) vs opens t g in
+        let chosen-is = not-refused-encoded (readOnly (code f)) 23 0 (encodeSelection type f (selectorsSize type - 1) vs opens) t g in
+        let fo = followed (code f) (selectors type) type (leads way (code f) type k) f (selectorsSize type - 1) vs opens t chosen-is in
         let fr = form-read f vs opens t shape (fo .form) in
         let body : List ℕ = fr .body in
         let u : List ℕ = framed (code f) body in
@@ -310,7 +315,11 @@ settling (Message'.VirtualConnect a b) = (refl, refl, refl)
 
 pub read-then-written : ReadThenWritten
 unfolding encode
-read-then-written way s b m e = values-written way s b (formOf m) (valuesOf m) e
+read-then-written way s b m kept e = values-written way s b (formOf m) (valuesOf m) kept e
+
+pub memory-lock-refused : MemoryLockRefused
+unfolding encode encodeValues types
+memory-lock-refused = (λ opens. (refl, refl), λ opens. (refl, refl), λ status opens. (refl, refl))
 
 pub written-then-read : WrittenThenRead
 unfolding encode
@@ -320,8 +329,8 @@ written-then-read way m opens s e =
     (b .fields ∙ sym (rw (k .1, k .2)), b .open-is)
 
 pub refused-only : RefusedOnly
-refused-only way m opens number place e s b d o =
-    let written : encode way m opens ≡ encoded s = ap (encode way m) (sym o) ∙ read-then-written way s b m d in
+refused-only way m opens kept number place e s b d o =
+    let written : encode way m opens ≡ encoded s = ap (encode way m) (sym o) ∙ read-then-written way s b m kept d in
     let z : _≡_ {A = ℕ} 0 1 = cc in absurd (omega arith)
 
 -- what writing gives is no longer than the longest message

@@ -38,7 +38,7 @@ abbrev pub EachOf : Layout → (List Value → Type 0) → Type 0
 EachOf l P = Each (l .fields) (λ us. EachRest (l .rest) (λ ws. P (us ++ ws)))
 
 -- a fixed string has no value
-no-values : (bs s : List ℕ) (at : ℕ) (ws : List Value) → sameBytes s at bs ≡ values ws → ws ≡ []
+pub no-values : (bs s : List ℕ) (at : ℕ) (ws : List Value) → sameBytes s at bs ≡ values ws → ws ≡ []
 unfolding sameBytes
 no-values [] s at ws e = cc
 no-values (b ∷ bs) s at ws e = go (eqb (getD s at 0) b) e (no-values bs s (at + 1) ws)

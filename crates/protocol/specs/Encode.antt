@@ -1,4 +1,4 @@
--- Writing one message, over the layouts that reading uses: refusals 5, 6 and 7 in the order of document 01, or the bytes.
+-- Writing one message, over the layouts that reading uses: refusals 5, 23, 6 and 7 in the order of documents 01 and 02, or the bytes.
 -- Refusal 8 is the function's own, by the length of its output.
 use Prim.Native.Nat.{ℕ, zero, suc, _+_, _*_, _-_, _/_, _%_, _^_}
 use mathlib.Core.Bool.{Bool, false, cond, _&&_}
@@ -13,7 +13,7 @@ use Rattle.protocol.specs.Number.{isFinite}
 use Rattle.protocol.specs.Rule.{any, between}
 use Rattle.protocol.specs.Field.{Field, number, highFirst, signed, float, fixed, Value, natural, integer, real, width}
 use Rattle.protocol.specs.Form.{Form, code, sameForm, Rest, nothing, openRun, words, Layout, layout}
-use Rattle.protocol.specs.Types.{Selection, always, select, MessageType, types, typeOf}
+use Rattle.protocol.specs.Types.{Selection, always, select, MessageType, types, typeOf, readOnly}
 use Rattle.protocol.specs.Decode.{header, fieldsEnd, smallestSize, selectorsSize}
 use Rattle.protocol.specs.Answer.{formOf, valuesOf, naturalAt}
 use Rattle.protocol.specs.declared.Way.{Way}
@@ -169,9 +169,10 @@ encodeSelection (select offset rule next) f last vs opens =
     let v = naturalAt vs offset in
     cond (rule v) (encodeSelection (next v) f last vs opens) (refused 7 (header + offset))
 
+-- 23, a type that is read only, comes after 5 and before all else
 abbrev pub encodeTyped : Option MessageType → Form → List Value → List ℕ → Encoded
 encodeTyped none f vs opens = refused 5 2
-encodeTyped (some t) f vs opens = encodeSelection t f (selectorsSize t - 1) vs opens
+encodeTyped (some t) f vs opens = cond (readOnly (code f)) (refused 23 0) (encodeSelection t f (selectorsSize t - 1) vs opens)
 
 -- a form with its values and its open bytes
 unfoldable pub encodeValues : Way → Form → List Value → List ℕ → Encoded

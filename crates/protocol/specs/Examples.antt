@@ -1,4 +1,4 @@
--- The bench examples of document 01 that concern reading, and those of sizes that are wanted, as one table; and sizes in writing.
+-- The bench examples of document 01 that concern reading, and those of sizes that are wanted, as one table; and sizes and memory lock in writing.
 use Prim.Native.Nat.{ℕ}
 use mathlib.Core.Path.{_≡_}
 use mathlib.Core.List.{List, [], _∷_, map}
@@ -66,6 +66,9 @@ examples =
     -- a detachment is shorter than an attachment: the event says which size is wanted
     ∷ up (0x06 ∷ 0x00 ∷ 0x04 ∷ 0x00 ∷ 0x00 ∷ 0x00 ∷ []) (refused 6 5)
     ∷ up (0x06 ∷ 0x00 ∷ 0x04 ∷ 0x00 ∷ 0x01 ∷ 0x00 ∷ []) (refused 6 15)
+    -- memory lock is read
+    ∷ down (0x0B ∷ 0x00 ∷ 0x11 ∷ 0x4C ∷ 0x6F ∷ 0x63 ∷ 0x6B ∷ 0x20 ∷ 0x4D ∷ 0x65 ∷ 0x6D ∷ []) (accepted Form.lockMemory [])
+    ∷ up (0x04 ∷ 0x00 ∷ 0x13 ∷ 0xFF ∷ []) (accepted Form.lockStatus (natural 0xFF ∷ []))
     ∷ []
 
 -- what the definitions say of every example, and what document 01 says: one statement, `examples-hold` in proofs/Examples.antt
@@ -75,7 +78,7 @@ read e = decode (e .way) (e .bytes)
 abbrev pub ExamplesHold : Type 0
 ExamplesHold = map read examples ≡ map (λ e. e .answer) examples
 
--- ---- sizes in writing
+-- ---- writing: sizes, and memory lock, which is read only
 
 pub record Writing : Type 0 where
   pub way : Way
@@ -92,8 +95,7 @@ counted n = record { count = n; entry0 = 0x16; entry1 = 0; entry2 = 0; entry3 = 
 abbrev pub writings : List Writing
 writings =
     -- a second slice where there is none: the form's own size
-    writing Down Message'.LockStatusRequest (0x00 ∷ []) (Encode.refused 6 3)
-    ∷ writing Down Message'.GoIntoBootMode (0x00 ∷ []) (Encode.refused 6 12)
+    writing Down Message'.GoIntoBootMode (0x00 ∷ []) (Encode.refused 6 12)
     ∷ writing Up (Message'.Attached 0 0x26 (pos 0) (pos 0)) (0x00 ∷ []) (Encode.refused 6 15)
     -- too few and too many open bytes: the smallest, before a mode that is outside its list
     ∷ writing Down (Message'.PropertyText 1 1) [] (Encode.refused 6 6)
@@ -106,6 +108,16 @@ writings =
     ∷ writing Up (Message'.PortCombinations 0 (counted 9)) [] (Encode.refused 6 7)
     ∷ writing Up (Message'.PortCombinations 0 (counted 2)) (0x00 ∷ []) (Encode.refused 6 7)
     ∷ writing Up (Message'.PortCombinations 0 (counted 1)) [] (encoded (0x07 ∷ 0x00 ∷ 0x43 ∷ 0x00 ∷ 0x02 ∷ 0x16 ∷ 0x00 ∷ []))
+    -- 11, 12 and 13: 23 the way they go, before a second slice and a field that are wrong; 5 the other way; their neighbour 10 is written
+    ∷ writing Down Message'.LockMemory [] (Encode.refused 23 0)
+    ∷ writing Up Message'.LockMemory [] (Encode.refused 5 2)
+    ∷ writing Down Message'.LockStatusRequest [] (Encode.refused 23 0)
+    ∷ writing Down Message'.LockStatusRequest (0x00 ∷ []) (Encode.refused 23 0)
+    ∷ writing Up Message'.LockStatusRequest (0x00 ∷ []) (Encode.refused 5 2)
+    ∷ writing Up (Message'.LockStatus 0xFF) [] (Encode.refused 23 0)
+    ∷ writing Up (Message'.LockStatus 300) (0x00 ∷ []) (Encode.refused 23 0)
+    ∷ writing Down (Message'.LockStatus 0xFF) [] (Encode.refused 5 2)
+    ∷ writing Down Message'.GoIntoBootMode [] (encoded (0x0C ∷ 0x00 ∷ 0x10 ∷ 0x4C ∷ 0x50 ∷ 0x46 ∷ 0x32 ∷ 0x2D ∷ 0x42 ∷ 0x6F ∷ 0x6F ∷ 0x74 ∷ []))
     ∷ []
 
 abbrev written : Writing → Encoded

@@ -155,7 +155,7 @@ argument virtualConnect = 0
 -- the forms by their numbers and argument; no form has number 0
 abbrev pub formsBy : ℕ → List Form
 formsBy a =
-    lockStatusRequest
+    goIntoBootMode
     ∷ propertyCommand
     ∷ (propertyText a)
     ∷ (propertyByte a)

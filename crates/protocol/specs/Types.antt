@@ -123,6 +123,10 @@ types Up =
     ∷ row 0x47 (plain Form.inputFormat)
     ∷ []
 
+-- the types of memory lock, which are read and no longer written: 11, 12 and 13
+abbrev pub readOnly : Rule
+readOnly = oneOf (0x11 ∷ 0x12 ∷ 0x13 ∷ [])
+
 -- the type of a type byte; none where it is unknown or does not go this way
 abbrev pub typeOf : ℕ → List Row → Option MessageType
 typeOf code [] = none

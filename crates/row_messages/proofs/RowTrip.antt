@@ -13,6 +13,7 @@ use Rattle.protocol.specs.Form.{Form, formNumber, Rest, nothing, openRun, words
 use Rattle.protocol.specs.Decode.{accepted, header, fieldsEnd, decodeForm, decode, openPart}
 use Rattle.protocol.specs.Answer.{formOf, valuesOf, messageOf}
 use Rattle.protocol.specs.Encode.{encoded, encodeValues, encode, writeFields, wrote}
+use Rattle.protocol.specs.RoundTrip.{NoMemoryLock}
 use Rattle.protocol.specs.declared.Message.{Message}
 use Rattle.protocol.specs.declared.Way.{Way}
 use Rattle.protocol.proofs.Answers.{message-back}
@@ -26,7 +27,7 @@ use Rattle.message_rows.specs.Row.{rowSize, beforeValues, numberOf, padded, val
 use Rattle.row_messages.proofs.Answering.{of-form}
 use Rattle.row_messages.proofs.Narrowing.{AllSlim, Numbers, fields-back, list-back}
 use Rattle.row_messages.proofs.OwnRow.{padded-length, accepted-size, few-values}
-use Rattle.row_messages.specs.RowTrip.{RowIsMessage, ReadRowThenWritten}
+use Rattle.row_messages.specs.RowTrip.{RowIsMessage, RowAsMessage, ReadRowThenWritten}
 use Rattle.row_messages.specs.RowWriting.{wordFields, rowValues, messageIn, sameTo, among, ownNumbers, unlessOwn, formEncoded, rowEncoded, narrowAll}
 
 -- ---- facts of the forms
@@ -177,20 +178,25 @@ module _ (way : Way) (s : List ℕ) (b : Bytes s) (m : Message) (e : decode way 
   unfolding ownNumbers
   own = same-front (among f vs) (valueNumbers vs) more (omega (arith, padded-length (rowSize - beforeValues) (map numberOf vs), few-values m))
 
-  row-encoded : formEncoded way (formNumber f) row (openPart way s) ≡ encoded s
+  row-encoded : (opens : List ℕ) → formEncoded way (formNumber f) row opens ≡ encode way m opens
   unfolding formEncoded encode
-  row-encoded =
-      ap (λ (n : Message). unlessOwn (ownNumbers (formOf n) (rowValues (formAt (formNumber f)) row) row) (encodeValues way (formOf n) (rowValues (formAt (formNumber f)) row) (openPart way s))) row-message
-      ∙ ap (λ (us : List Value). unlessOwn (ownNumbers f us row) (encodeValues way f us (openPart way s))) row-values
-      ∙ ap (λ (o : Bool). unlessOwn o (encode way m (openPart way s))) own
-      ∙ read-then-written way s b m e
+  row-encoded opens =
+      ap (λ (n : Message). unlessOwn (ownNumbers (formOf n) (rowValues (formAt (formNumber f)) row) row) (encodeValues way (formOf n) (rowValues (formAt (formNumber f)) row) opens)) row-message
+      ∙ ap (λ (us : List Value). unlessOwn (ownNumbers f us row) (encodeValues way f us opens)) row-values
+      ∙ ap (λ (o : Bool). unlessOwn o (encode way m opens)) own
 
-  pub row-back : rowEncoded way row (openPart way s) ≡ encoded s
-  row-back =
-      of-form way row (openPart way s) (omega (arith, accepted-size f start count vs, length-append (acceptedRow f start count vs) more)) (numbered f .least) (numbered f .most) ∙ row-encoded
+  pub row-written : (opens : List ℕ) → rowEncoded way row opens ≡ encode way m opens
+  row-written opens =
+      of-form way row opens (omega (arith, accepted-size f start count vs, length-append (acceptedRow f start count vs) more)) (numbered f .least) (numbered f .most) ∙ row-encoded opens
+
+  pub row-back : NoMemoryLock m → rowEncoded way row (openPart way s) ≡ encoded s
+  row-back kept = row-written (openPart way s) ∙ read-then-written way s b m kept e
 
 pub row-is-message : RowIsMessage
 row-is-message = row-message
+
+pub row-as-message : RowAsMessage
+row-as-message = row-written
 
 pub read-row-then-written : ReadRowThenWritten
 read-row-then-written = row-back

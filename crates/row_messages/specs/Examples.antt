@@ -29,6 +29,14 @@ examples =
     ∷ up 0 [] [] (refused 255 0)
     -- the way first
     ∷ down 11 (300 ∷ 300 ∷ []) [] (refused 5 2)
+    -- then memory lock, which is read only, before a second slice and a number that is too wide
+    ∷ down 16 [] [] (refused 23 0)
+    ∷ up 16 [] [] (refused 5 2)
+    ∷ down 17 [] (0x01 ∷ []) (refused 23 0)
+    ∷ up 17 [] (0x01 ∷ []) (refused 5 2)
+    ∷ up 18 (0xFF ∷ []) [] (refused 23 0)
+    ∷ up 18 (300 ∷ []) [] (refused 23 0)
+    ∷ down 18 (300 ∷ []) [] (refused 5 2)
     -- a detachment whose event is another's, or wider than its byte
     ∷ up 11 (300 ∷ 1 ∷ []) [] (refused 7 4)
     ∷ up 11 (0 ∷ 300 ∷ []) [] (refused 7 4)

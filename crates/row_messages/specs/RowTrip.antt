@@ -6,7 +6,8 @@ use lib.ListN.{getD}
 use Rattle.protocol.specs.Number.{Bytes}
 use Rattle.protocol.specs.Decode.{decode, openPart}
 use Rattle.protocol.specs.Answer.{answerOf, formOf, valuesOf}
-use Rattle.protocol.specs.Encode.{encoded}
+use Rattle.protocol.specs.Encode.{encoded, encode}
+use Rattle.protocol.specs.RoundTrip.{NoMemoryLock}
 use Rattle.protocol.specs.declared.Way.{Way}
 use Rattle.protocol.specs.declared.Message.{Message}
 use Rattle.protocol.specs.declared.Reading.the-variants.{Accepted}
@@ -24,6 +25,10 @@ EachReadRow P =
 abbrev pub RowIsMessage : Type 0
 RowIsMessage = EachReadRow (λ way s m row. messageIn (getD row 0 0) row ≡ m)
 
--- and writing it gives back the bytes that were read
+-- and writing it is writing that message, whatever the open bytes are; so it is 23 for memory lock
+abbrev pub RowAsMessage : Type 0
+RowAsMessage = EachReadRow (λ way s m row. (opens : List ℕ) → rowEncoded way row opens ≡ encode way m opens)
+
+-- for all other types it gives back the bytes that were read
 abbrev pub ReadRowThenWritten : Type 0
-ReadRowThenWritten = EachReadRow (λ way s m row. rowEncoded way row (openPart way s) ≡ encoded s)
+ReadRowThenWritten = EachReadRow (λ way s m row. NoMemoryLock m → rowEncoded way row (openPart way s) ≡ encoded s)

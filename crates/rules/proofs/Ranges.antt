@@ -1,23 +1,28 @@
 -- The fields that a table keeps of an accepted message are within their lists.
-use Prim.Native.Nat.{ℕ, suc, _+_, _^_}
+use Prim.Native.Nat.{ℕ, suc, _+_, _^_, _≤_}
+use native.Mathlib.Omega.{arith}
 use mathlib.Core.Path.{_≡_, refl}
 use mathlib.Core.Bool.{Bool, true, false, cond}
-use mathlib.Core.List.{List, [], _∷_}
+use mathlib.Core.List.{List, [], _∷_, _++_}
+use borrow.Author.Tests.{lt-ltb}
 use lib.Dec.{ltb}
-use Rattle.protocol.specs.Number.{Bytes}
+use lib.Ieee.{Float, binary32, ofBits}
+use lib.ListN.{length}
+use Rattle.protocol.specs.Number.{Bytes, littleEndian, bigEndian, twosComplement, isFinite}
 use Rattle.protocol.specs.Rule.{Rule}
-use Rattle.protocol.specs.Field.{Field, number, highFirst, signed, float, fixed, Value, natural, integer, real, width}
+use Rattle.protocol.specs.Field.{Field, number, highFirst, signed, float, fixed, Value, natural, integer, real, widths, values, readField, readFields}
 use Rattle.protocol.specs.Form
 use Rattle.protocol.specs.Form.{Form, layout}
 use Rattle.protocol.specs.Decode.{accepted, header, decode}
 use Rattle.protocol.specs.Answer.{naturalAt, messageOf}
-use Rattle.protocol.specs.Encode.{holds, wrote, writeFields}
 use Rattle.protocol.specs.declared.Way.{Way}
-use Rattle.protocol.proofs.Tests.{and-left, and-right}
-use Rattle.protocol.proofs.FieldTrip.{taken-good, never, step-after}
-use Rattle.protocol.proofs.FieldsTrip.{one-step}
-use Rattle.protocol.proofs.FormTrip.{was-written, form-written}
+use Rattle.protocol.proofs.Bytes.{little-lt}
+use Rattle.protocol.proofs.FieldTrip.{within-yes}
+use Rattle.protocol.proofs.FieldsTrip.{both-read}
+use Rattle.protocol.proofs.FormTrip.{was-read}
 use Rattle.protocol.proofs.RoundTrip.{form-accepted}
+use Rattle.protocol.proofs.Sizes.{room}
+use Rattle.protocol.proofs.ValueKinds.{no-values}
 use Rattle.rules.specs.Layout.{experimentCount}
 use Rattle.rules.specs.Effect.{Empty, Nothing, emptiesTable, effectOf}
 use Rattle.rules.specs.Ranges.{effectFits}
@@ -35,31 +40,29 @@ AllListed (signed w ∷ fs) at = AllListed fs (λ i. at (suc i))
 AllListed (float ∷ fs) at = AllListed fs (λ i. at (suc i))
 AllListed (fixed bytes ∷ fs) at = AllListed fs at
 
--- a field holds only a number that is listed
-held-listed : (w : ℕ) (rule : Rule) (v : Value) → holds (number w rule) v ≡ true → Listed w rule (naturalAt (v ∷ []) 0)
-held-listed w rule (natural n) h = (and-left (ltb n (256 ^ w)) (rule n) h, and-right (ltb n (256 ^ w)) (rule n) h)
-held-listed w rule (integer z) h = never h
-held-listed w rule (real x) h = never h
-
--- numbers that were written are listed
-all-listed : (fs : List Field) (place : ℕ) (vs : List Value) (bs : List ℕ) (ws : List Value) → writeFields place fs vs ≡ wrote bs ws → AllListed fs (naturalAt vs)
-all-listed [] place vs bs ws e = tt
-all-listed (number w rule ∷ fs) place vs bs ws e =
-    let r = one-step (number w rule) fs place vs bs ws e in
-    let t = taken-good (number w rule) vs (r .first) (r .left) (r .first-is) in
-    rw (t .front) (held-listed w rule (t .value) (t .held), all-listed fs (place + w) (r .left) (r .second) ws (r .second-is))
-all-listed (highFirst w ∷ fs) place vs bs ws e =
-    let r = one-step (highFirst w) fs place vs bs ws e in
-    rw (taken-good (highFirst w) vs (r .first) (r .left) (r .first-is) .front) (all-listed fs (place + width (highFirst w)) (r .left) (r .second) ws (r .second-is))
-all-listed (signed w ∷ fs) place vs bs ws e =
-    let r = one-step (signed w) fs place vs bs ws e in
-    rw (taken-good (signed w) vs (r .first) (r .left) (r .first-is) .front) (all-listed fs (place + width (signed w)) (r .left) (r .second) ws (r .second-is))
-all-listed (float ∷ fs) place vs bs ws e =
-    let r = one-step float fs place vs bs ws e in
-    rw (taken-good float vs (r .first) (r .left) (r .first-is) .front) (all-listed fs (place + width float) (r .left) (r .second) ws (r .second-is))
-all-listed (fixed bytes ∷ fs) place vs bs ws e =
-    let r = one-step (fixed bytes) fs place vs bs ws e in
-    rw (step-after (fixed bytes) vs (r .first) (r .left) (r .first-is)) (all-listed fs (place + width (fixed bytes)) (r .left) (r .second) ws (r .second-is))
+-- numbers that were read are listed
+all-listed : (fs : List Field) (s : List ℕ) (at : ℕ) → Bytes s → at + widths fs ≤ length s → (vs rest : List Value) → readFields s at fs ≡ values vs → AllListed fs (naturalAt (vs ++ rest))
+all-listed [] s at b h vs rest e = tt
+all-listed (number w rule ∷ fs) s at b h vs rest e =
+    let r = both-read (readField s at (number w rule)) (readFields s (at + w) fs) vs e in
+    let n : ℕ = littleEndian s at w in
+    let k = within-yes (rule n) at (natural n) (r .first) (r .first-is) in
+    rw (r .joined, k .1) ((lt-ltb n (256 ^ w) (little-lt s at w b (omega arith)), k .0), all-listed fs s (at + w) b (omega arith) (r .second) rest (r .second-is))
+all-listed (highFirst w ∷ fs) s at b h vs rest e =
+    let r = both-read (readField s at (highFirst w)) (readFields s (at + w) fs) vs e in
+    let is : r .first ≡ natural (bigEndian s at w) ∷ [] = cc in
+    rw (r .joined, is) (all-listed fs s (at + w) b (omega arith) (r .second) rest (r .second-is))
+all-listed (signed w ∷ fs) s at b h vs rest e =
+    let r = both-read (readField s at (signed w)) (readFields s (at + w) fs) vs e in
+    let is : r .first ≡ integer (twosComplement w (littleEndian s at w)) ∷ [] = cc in
+    rw (r .joined, is) (all-listed fs s (at + w) b (omega arith) (r .second) rest (r .second-is))
+all-listed (float ∷ fs) s at b h vs rest e =
+    let r = both-read (readField s at float) (readFields s (at + 4) fs) vs e in
+    let x : Float = ofBits binary32 (littleEndian s at 4) in
+    rw (r .joined, within-yes (isFinite x) at (real x) (r .first) (r .first-is) .1) (all-listed fs s (at + 4) b (omega arith) (r .second) rest (r .second-is))
+all-listed (fixed bytes ∷ fs) s at b h vs rest e =
+    let r = both-read (readField s at (fixed bytes)) (readFields s (at + length bytes) fs) vs e in
+    rw (r .joined, no-values bytes s at (r .first) (r .first-is)) (all-listed fs s (at + length bytes) b (omega arith) (r .second) rest (r .second-is))
 
 -- 02 empties the table or does nothing
 either-fits : (b : Bool) → effectFits (cond b Empty Nothing) ≡ true
@@ -105,5 +108,9 @@ listed-fits experiment small Form.virtualConnect vs k = refl
 
 pub effect-fits : (experiment : ℕ) → ltb experiment experimentCount ≡ true → (way : Way) (s : List ℕ) → Bytes s → (f : Form) (vs : List Value) → decode way s ≡ accepted f vs → effectFits (effectOf experiment (messageOf f vs)) ≡ true
 effect-fits experiment small way s b f vs e =
-    let w = was-written f vs _ _ (form-written f s b vs (form-accepted way s f vs e)) in
-    listed-fits experiment small f vs (all-listed (layout f .fields) header vs (w .front) (w .left) (w .front-is))
+    let read = was-read f s vs (form-accepted way s f vs e) in
+    let both = read .both in
+    let listed : AllListed (layout f .fields) (naturalAt vs) =
+    rw (both .joined) (all-listed (layout f .fields) s header b (room f (length s) (read .size)) (both .first) (both .second) (both .first-is))
+    in
+    listed-fits experiment small f vs listed

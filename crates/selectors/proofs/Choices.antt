@@ -15,13 +15,13 @@ use Rattle.protocol.specs.Properties.{carries, allowed, outsideSelector}
 use Rattle.protocol.specs.Field.{Value}
 use Rattle.protocol.specs.Form
 use Rattle.protocol.specs.Form.{Form, formNumber, argument, sameForm, code}
-use Rattle.protocol.specs.Types.{payload, downAction, upAction, hubProperties, hubActions, hubAlerts, hubAttachedIo, portInformation, portModeInformation, virtualPortSetup, types}
+use Rattle.protocol.specs.Types.{payload, downAction, upAction, hubProperties, hubActions, hubAlerts, hubAttachedIo, portInformation, portModeInformation, virtualPortSetup, types, readOnly}
 use Rattle.protocol.specs.Answer.{formOf, valuesOf, naturalAt, messageOf}
 use Rattle.protocol.specs.Encode.{Encoded, refused, encodeForm, encodeValues, encode}
 use Rattle.protocol.specs.declared.Message.{Message}
 use Rattle.protocol.specs.declared.Way.{Way}
 use Rattle.protocol.specs.declared.Way.the-variants.{Down, Up}
-use Rattle.selectors.specs.Choice.{afterSelectors, downOnly, upOnly, propertyForm, propertyChoice, actionChoice, commandLeads, updateLeads, alertChoice, choiceOf, formAt}
+use Rattle.selectors.specs.Choice.{afterSelectors, downOnly, upOnly, downReadOnly, upReadOnly, propertyForm, propertyChoice, actionChoice, commandLeads, updateLeads, alertChoice, choiceOf, formAt}
 use Rattle.selectors.specs.declared.Choice.{Choice}
 use Rattle.selectors.specs.declared.Choice.the-variants.{Chosen, Refused}
 
@@ -55,6 +55,17 @@ module _ (f : Form) (vs : List Value) (leads : Bool) (place : ℕ) where
   going-up : ((opens : List ℕ) → encodeValues Down f vs opens ≡ refused 5 2) → ((opens : List ℕ) → encodeValues Up f vs opens ≡ cond leads (encodeForm f vs opens) (refused 7 place)) → (way : Way) → RightFor way f vs (upOnly way leads place)
   going-up there here Down = there
   going-up there here Up = λ opens. here opens ∙ one-test leads (formed opens) 7 place
+
+-- types that are read only
+
+module _ (f : Form) (vs : List Value) where
+  refusing-down : ((opens : List ℕ) → encodeValues Down f vs opens ≡ refused 23 0) → ((opens : List ℕ) → encodeValues Up f vs opens ≡ refused 5 2) → (way : Way) → RightFor way f vs (downReadOnly way)
+  refusing-down here there Down = here
+  refusing-down here there Up = there
+
+  refusing-up : ((opens : List ℕ) → encodeValues Down f vs opens ≡ refused 5 2) → ((opens : List ℕ) → encodeValues Up f vs opens ≡ refused 23 0) → (way : Way) → RightFor way f vs (upReadOnly way)
+  refusing-up there here Down = there
+  refusing-up there here Up = here
 
 -- a selector that has one value in a form: with it the form is chosen, with any other it is refused
 by-value : (F : ℕ → Encoded) (b v : ℕ) (x r : Encoded) → F v ≡ x → (eqb b v ≡ false → F b ≡ r) → F b ≡ cond (eqb b v) x r
@@ -118,8 +129,8 @@ selectors way f p o x a =
 
 property-right : (f : Form) (vs : List Value) → code f ≡ 1 → Of (naturalAt vs 0) f → (way : Way) → RightFor way f vs (propertyChoice way (naturalAt vs 0) (naturalAt vs 1) (formNumber f))
 unfolding encodeValues types hubProperties propertyForm
-property-right f vs one a Down = λ opens. rw one (selectors Down f (naturalAt vs 0) (naturalAt vs 1) (encodeForm f vs opens) a)
-property-right f vs one a Up = λ opens. rw one (selectors Up f (naturalAt vs 0) (naturalAt vs 1) (encodeForm f vs opens) a)
+property-right f vs one a Down = λ opens. rw (one, ap readOnly one) (selectors Down f (naturalAt vs 0) (naturalAt vs 1) (encodeForm f vs opens) a)
+property-right f vs one a Up = λ opens. rw (one, ap readOnly one) (selectors Up f (naturalAt vs 0) (naturalAt vs 1) (encodeForm f vs opens) a)
 
 -- ---- hub actions and alerts
 
@@ -392,9 +403,9 @@ selects Form.attached vs a = going-up Form.attached vs (eqb (naturalAt vs 1) 1) 
 selects Form.attachedVirtual vs a = going-up Form.attachedVirtual vs (eqb (naturalAt vs 1) 2) 4 (λ opens. refl) (λ opens. virtual-value (naturalAt vs 1) (encodeForm Form.attachedVirtual vs opens) (refused 7 4))
 selects Form.genericError vs a = going-up Form.genericError vs true 0 (λ opens. refl) (λ opens. refl)
 selects Form.goIntoBootMode vs a = going-down Form.goIntoBootMode vs true 0 (λ opens. refl) (λ opens. refl)
-selects Form.lockMemory vs a = going-down Form.lockMemory vs true 0 (λ opens. refl) (λ opens. refl)
-selects Form.lockStatusRequest vs a = going-down Form.lockStatusRequest vs true 0 (λ opens. refl) (λ opens. refl)
-selects Form.lockStatus vs a = going-up Form.lockStatus vs true 0 (λ opens. refl) (λ opens. refl)
+selects Form.lockMemory vs a = refusing-down Form.lockMemory vs (λ opens. refl) (λ opens. refl)
+selects Form.lockStatusRequest vs a = refusing-down Form.lockStatusRequest vs (λ opens. refl) (λ opens. refl)
+selects Form.lockStatus vs a = refusing-up Form.lockStatus vs (λ opens. refl) (λ opens. refl)
 selects Form.portInformationRequest vs a = going-down Form.portInformationRequest vs true 0 (λ opens. refl) (λ opens. refl)
 selects Form.modeInformationRequest vs a = going-down Form.modeInformationRequest vs true 0 (λ opens. refl) (λ opens. refl)
 selects Form.inputFormatSetup vs a = going-down Form.inputFormatSetup vs true 0 (λ opens. refl) (λ opens. refl)

@@ -1,4 +1,4 @@
--- What comes of a form's way and selectors: 5, 7, or the form itself.
+-- What comes of a form's way and selectors: 5, 23, 7, or the form itself.
 use Prim.Native.Nat.{ℕ}
 use mathlib.Core.Bool.{Bool, true, false, cond}
 use mathlib.Core.List.{[], _∷_}
@@ -27,6 +27,15 @@ downOnly Up leads place = Refused 5 2
 abbrev pub upOnly : Way → Bool → ℕ → Choice
 upOnly Down leads place = Refused 5 2
 upOnly Up leads place = cond leads Chosen (Refused 7 place)
+
+-- a type that goes one way and is read only
+abbrev pub downReadOnly : Way → Choice
+downReadOnly Down = Refused 23 0
+downReadOnly Up = Refused 5 2
+
+abbrev pub upReadOnly : Way → Choice
+upReadOnly Down = Refused 5 2
+upReadOnly Up = Refused 23 0
 
 -- the form that a property and an operation lead to
 unfoldable pub propertyForm : ℕ → ℕ → Form
@@ -73,9 +82,9 @@ choiceOf Form.attached way a b c = upOnly way (eqb b 1) 4
 choiceOf Form.attachedVirtual way a b c = upOnly way (eqb b 2) 4
 choiceOf Form.genericError way a b c = upOnly way true 0
 choiceOf Form.goIntoBootMode way a b c = downOnly way true 0
-choiceOf Form.lockMemory way a b c = downOnly way true 0
-choiceOf Form.lockStatusRequest way a b c = downOnly way true 0
-choiceOf Form.lockStatus way a b c = upOnly way true 0
+choiceOf Form.lockMemory way a b c = downReadOnly way
+choiceOf Form.lockStatusRequest way a b c = downReadOnly way
+choiceOf Form.lockStatus way a b c = upReadOnly way
 choiceOf Form.portInformationRequest way a b c = downOnly way true 0
 choiceOf Form.modeInformationRequest way a b c = downOnly way true 0
 choiceOf Form.inputFormatSetup way a b c = downOnly way true 0
@@ -92,6 +101,6 @@ choiceOf Form.inputFormat way a b c = upOnly way true 0
 choiceOf Form.virtualDisconnect way a b c = downOnly way (eqb a 0) 3
 choiceOf Form.virtualConnect way a b c = downOnly way (eqb a 1) 3
 
--- the form of a number, with any argument, since no choice looks at it; a number that is no form's counts as 17
+-- the form of a number, with any argument, since no choice looks at it; a number that is no form's counts as 15
 unfoldable pub formAt : ℕ → Form
-formAt n = getD (formsBy 0) n Form.lockStatusRequest
+formAt n = getD (formsBy 0) n Form.goIntoBootMode

@@ -1,4 +1,5 @@
-// Whether a form goes this way, and whether its selectors lead to it: refusals 5 and 7.
+// Whether a form goes this way and is written at all, and whether its selectors lead to it: refusals 5,
+// 23 and 7.
 use hub_messages::hub::is_down_action;
 use hub_messages::property::carries;
 use hub_messages::property::outside_selector;
@@ -12,7 +13,7 @@ ghost use Rattle.protocol.specs.Rule.{oneOf};
 ghost use Rattle.protocol.specs.Form.{formNumber};
 ghost use Rattle.protocol.specs.Answer.{formOf, valuesOf};
 ghost use Rattle.protocol.specs.Encode.{encode, encodeForm};
-ghost use Rattle.selectors.specs.Choice.{afterSelectors, downOnly, upOnly, propertyForm, propertyChoice, isAction, actionChoice, commandLeads, updateLeads, alertChoice, choiceOf, formAt};
+ghost use Rattle.selectors.specs.Choice.{afterSelectors, downOnly, upOnly, downReadOnly, upReadOnly, propertyForm, propertyChoice, isAction, actionChoice, commandLeads, updateLeads, alertChoice, choiceOf, formAt};
 
 // Which refusal comes of them; chosen where none does.
 pub enum Choice {
@@ -55,6 +56,38 @@ fn goes_up(way: Way, leads: bool, place: u16) -> Choice
                 Choice::Refused { number: 7, place }
             }
         }
+    }
+}
+
+// A type that went down only and is read only now.
+fn read_only_down(way: Way) -> Choice
+    ensures { λ r. ⌜ r ≡ downReadOnly way ⌝ }
+{
+    match way {
+        Way::Down => Choice::Refused {
+            number: 23,
+            place: 0,
+        },
+        Way::Up => Choice::Refused {
+            number: 5,
+            place: 2,
+        },
+    }
+}
+
+// The same of a type that went up only.
+fn read_only_up(way: Way) -> Choice
+    ensures { λ r. ⌜ r ≡ upReadOnly way ⌝ }
+{
+    match way {
+        Way::Down => Choice::Refused {
+            number: 5,
+            place: 2,
+        },
+        Way::Up => Choice::Refused {
+            number: 23,
+            place: 0,
+        },
     }
 }
 
@@ -202,7 +235,9 @@ pub fn choose(form: u64, way: Way, a: u8, b: u8, c: u8) -> Choice
         12 => goes_up(way, b == 1, 4),
         13 => goes_up(way, b == 2, 4),
         14 => goes_up(way, true, 0),
-        18 => goes_up(way, true, 0),
+        16 => read_only_down(way),
+        17 => read_only_down(way),
+        18 => read_only_up(way),
         22 => goes_up(way, b == 1, 4),
         23 => goes_up(way, b == 2, 4),
         24 => goes_up(way, is_text(c), 5),

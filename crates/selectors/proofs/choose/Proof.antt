@@ -57,23 +57,32 @@ goes-up-requires-3 c κs = search needs
 goes-up-requires-4 : tie.Need-goes-up-requires-4
 goes-up-requires-4 c κs = search needs
 
+read-only-down-requires : tie.Need-read-only-down-requires
+read-only-down-requires c κs = search needs
+
+read-only-down-requires-2 : tie.Need-read-only-down-requires-2
+read-only-down-requires-2 c κs = search needs
+
+read-only-up-requires : tie.Need-read-only-up-requires
+read-only-up-requires c κs = search needs
+
 goes-up-requires-5 : tie.Need-goes-up-requires-5
 goes-up-requires-5 c κs = search needs
 
 goes-up-requires-6 : tie.Need-goes-up-requires-6
 goes-up-requires-6 c κs = search needs
 
-goes-up-requires-7 : tie.Need-goes-up-requires-7
-goes-up-requires-7 c κs = search needs
-
 is-text-requires : tie.Need-is-text-requires
 is-text-requires c κs = search needs
 
-goes-up-requires-8 : tie.Need-goes-up-requires-8
-goes-up-requires-8 c κs = search needs
+goes-up-requires-7 : tie.Need-goes-up-requires-7
+goes-up-requires-7 c κs = search needs
 
 is-range-requires : tie.Need-is-range-requires
 is-range-requires c κs = search needs
+
+goes-up-requires-8 : tie.Need-goes-up-requires-8
+goes-up-requires-8 c κs = search needs
 
 goes-up-requires-9 : tie.Need-goes-up-requires-9
 goes-up-requires-9 c κs = search needs
@@ -92,9 +101,6 @@ goes-up-requires-13 c κs = search needs
 
 goes-up-requires-14 : tie.Need-goes-up-requires-14
 goes-up-requires-14 c κs = search needs
-
-goes-up-requires-15 : tie.Need-goes-up-requires-15
-goes-up-requires-15 c κs = search needs
 
 goes-down-requires : tie.Need-goes-down-requires
 goes-down-requires c κs = search needs
@@ -157,13 +163,13 @@ returns-9 : tie.Need-returns-9
 unfolding formAt
 returns-9 c =
     let a = c .before .before .before .args in
-    numbered (a .form) 9 (a .way) (a .a) (a .b) (a .c) _ (c .before .before .match .keys9) (c .alert-selected .ensures ∙ ap (alertChoice (c .before .before .before .args .a)) (c .before .command-leads .ensures))
+    numbered (a .form) 9 (a .way) (a .a) (a .b) (a .c) _ (c .before .before .match .keys9) (c .alert-selected .ensures ∙ ap (alertChoice (a .a)) (c .before .command-leads .ensures))
 
 returns-10 : tie.Need-returns-10
 unfolding formAt
 returns-10 c =
     let a = c .before .before .before .args in
-    numbered (a .form) 10 (a .way) (a .a) (a .b) (a .c) _ (c .before .before .match .keys10) (c .alert-selected2 .ensures ∙ ap (alertChoice (c .before .before .before .args .a)) (c .before .update-leads .ensures))
+    numbered (a .form) 10 (a .way) (a .a) (a .b) (a .c) _ (c .before .before .match .keys10) (c .alert-selected2 .ensures ∙ ap (alertChoice (a .a)) (c .before .update-leads .ensures))
 
 returns-11 : tie.Need-returns-11
 unfolding formAt
@@ -193,98 +199,112 @@ returns-15 : tie.Need-returns-15
 unfolding formAt
 returns-15 c =
     let a = c .before .before .args in
-    numbered (a .form) 18 (a .way) (a .a) (a .b) (a .c) _ (c .before .match .keys15) (c .goes-up5 .ensures)
+    numbered (a .form) 16 (a .way) (a .a) (a .b) (a .c) _ (c .before .match .keys15) (c .read-only-down .ensures)
 
 returns-16 : tie.Need-returns-16
 unfolding formAt
 returns-16 c =
     let a = c .before .before .args in
-    numbered (a .form) 22 (a .way) (a .a) (a .b) (a .c) _ (c .before .match .keys16) (c .goes-up6 .ensures)
+    numbered (a .form) 17 (a .way) (a .a) (a .b) (a .c) _ (c .before .match .keys16) (c .read-only-down2 .ensures)
 
 returns-17 : tie.Need-returns-17
 unfolding formAt
 returns-17 c =
     let a = c .before .before .args in
-    numbered (a .form) 23 (a .way) (a .a) (a .b) (a .c) _ (c .before .match .keys17) (c .goes-up7 .ensures)
+    numbered (a .form) 18 (a .way) (a .a) (a .b) (a .c) _ (c .before .match .keys17) (c .read-only-up .ensures)
 
 returns-18 : tie.Need-returns-18
 unfolding formAt
 returns-18 c =
-    let a = c .before .before .before .args in
-    numbered (a .form) 24 (a .way) (a .a) (a .b) (a .c) _ (c .before .before .match .keys18) (c .goes-up8 .ensures ∙ ap (λ (l : Bool). upOnly (c .before .before .before .args .way) l 5) (c .before .is-text .ensures))
+    let a = c .before .before .args in
+    numbered (a .form) 22 (a .way) (a .a) (a .b) (a .c) _ (c .before .match .keys18) (c .goes-up5 .ensures)
 
 returns-19 : tie.Need-returns-19
 unfolding formAt
 returns-19 c =
-    let a = c .before .before .before .args in
-    numbered (a .form) 25 (a .way) (a .a) (a .b) (a .c) _ (c .before .before .match .keys19) (c .goes-up9 .ensures ∙ ap (λ (l : Bool). upOnly (c .before .before .before .args .way) l 5) (c .before .is-range .ensures))
+    let a = c .before .before .args in
+    numbered (a .form) 23 (a .way) (a .a) (a .b) (a .c) _ (c .before .match .keys19) (c .goes-up6 .ensures)
 
 returns-20 : tie.Need-returns-20
 unfolding formAt
 returns-20 c =
-    let a = c .before .before .args in
-    numbered (a .form) 26 (a .way) (a .a) (a .b) (a .c) _ (c .before .match .keys20) (c .goes-up10 .ensures)
+    let a = c .before .before .before .args in
+    numbered (a .form) 24 (a .way) (a .a) (a .b) (a .c) _ (c .before .before .match .keys20) (c .goes-up7 .ensures ∙ ap (λ (l : Bool). upOnly (a .way) l 5) (c .before .is-text .ensures))
 
 returns-21 : tie.Need-returns-21
 unfolding formAt
 returns-21 c =
-    let a = c .before .before .args in
-    numbered (a .form) 27 (a .way) (a .a) (a .b) (a .c) _ (c .before .match .keys21) (c .goes-up11 .ensures)
+    let a = c .before .before .before .args in
+    numbered (a .form) 25 (a .way) (a .a) (a .b) (a .c) _ (c .before .before .match .keys21) (c .goes-up8 .ensures ∙ ap (λ (l : Bool). upOnly (a .way) l 5) (c .before .is-range .ensures))
 
 returns-22 : tie.Need-returns-22
 unfolding formAt
 returns-22 c =
     let a = c .before .before .args in
-    numbered (a .form) 28 (a .way) (a .a) (a .b) (a .c) _ (c .before .match .keys22) (c .goes-up12 .ensures)
+    numbered (a .form) 26 (a .way) (a .a) (a .b) (a .c) _ (c .before .match .keys22) (c .goes-up9 .ensures)
 
 returns-23 : tie.Need-returns-23
 unfolding formAt
 returns-23 c =
     let a = c .before .before .args in
-    numbered (a .form) 29 (a .way) (a .a) (a .b) (a .c) _ (c .before .match .keys23) (c .goes-up13 .ensures)
+    numbered (a .form) 27 (a .way) (a .a) (a .b) (a .c) _ (c .before .match .keys23) (c .goes-up10 .ensures)
 
 returns-24 : tie.Need-returns-24
 unfolding formAt
 returns-24 c =
     let a = c .before .before .args in
-    numbered (a .form) 30 (a .way) (a .a) (a .b) (a .c) _ (c .before .match .keys24) (c .goes-up14 .ensures)
+    numbered (a .form) 28 (a .way) (a .a) (a .b) (a .c) _ (c .before .match .keys24) (c .goes-up11 .ensures)
 
 returns-25 : tie.Need-returns-25
 unfolding formAt
 returns-25 c =
     let a = c .before .before .args in
-    numbered (a .form) 31 (a .way) (a .a) (a .b) (a .c) _ (c .before .match .keys25) (c .goes-up15 .ensures)
+    numbered (a .form) 29 (a .way) (a .a) (a .b) (a .c) _ (c .before .match .keys25) (c .goes-up12 .ensures)
 
 returns-26 : tie.Need-returns-26
 unfolding formAt
 returns-26 c =
     let a = c .before .before .args in
-    numbered (a .form) 32 (a .way) (a .a) (a .b) (a .c) _ (c .before .match .keys26) (c .goes-down .ensures)
+    numbered (a .form) 30 (a .way) (a .a) (a .b) (a .c) _ (c .before .match .keys26) (c .goes-up13 .ensures)
 
 returns-27 : tie.Need-returns-27
 unfolding formAt
 returns-27 c =
     let a = c .before .before .args in
-    numbered (a .form) 33 (a .way) (a .a) (a .b) (a .c) _ (c .before .match .keys27) (c .goes-down2 .ensures)
+    numbered (a .form) 31 (a .way) (a .a) (a .b) (a .c) _ (c .before .match .keys27) (c .goes-up14 .ensures)
 
 returns-28 : tie.Need-returns-28
 unfolding formAt
 returns-28 c =
     let a = c .before .before .args in
-    let ne1 = c .before .match .rest .0 .0 .0 .0 .0 .0 .0 .0 .0 .0 .0 .0 .0 .0 .0 .0 .0 .0 .0 .0 .0 .0 .0 .0 .0 .0 .1 in
-    let ne2 = c .before .match .rest .0 .0 .0 .0 .0 .0 .0 .0 .0 .0 .0 .0 .0 .0 .0 .0 .0 .0 .0 .0 .0 .0 .0 .0 .0 .1 in
-    let ne3 = c .before .match .rest .0 .0 .0 .0 .0 .0 .0 .0 .0 .0 .0 .0 .0 .0 .0 .0 .0 .0 .0 .0 .0 .0 .0 .0 .1 in
-    let ne4 = c .before .match .rest .0 .0 .0 .0 .0 .0 .0 .0 .0 .0 .0 .0 .0 .0 .0 .0 .0 .0 .0 .0 .0 .0 .0 .1 in
-    let ne5 = c .before .match .rest .0 .0 .0 .0 .0 .0 .0 .0 .0 .0 .0 .0 .0 .0 .0 .0 .0 .0 .0 .0 .0 .0 .1 in
-    let ne6 = c .before .match .rest .0 .0 .0 .0 .0 .0 .0 .0 .0 .0 .0 .0 .0 .0 .0 .0 .0 .0 .0 .0 .0 .1 in
-    let ne7 = c .before .match .rest .0 .0 .0 .0 .0 .0 .0 .0 .0 .0 .0 .0 .0 .0 .0 .0 .0 .0 .0 .0 .1 in
-    let ne8 = c .before .match .rest .0 .0 .0 .0 .0 .0 .0 .0 .0 .0 .0 .0 .0 .0 .0 .0 .0 .0 .0 .1 in
-    let ne9 = c .before .match .rest .0 .0 .0 .0 .0 .0 .0 .0 .0 .0 .0 .0 .0 .0 .0 .0 .0 .0 .1 in
-    let ne10 = c .before .match .rest .0 .0 .0 .0 .0 .0 .0 .0 .0 .0 .0 .0 .0 .0 .0 .0 .0 .1 in
-    let ne11 = c .before .match .rest .0 .0 .0 .0 .0 .0 .0 .0 .0 .0 .0 .0 .0 .0 .0 .0 .1 in
-    let ne12 = c .before .match .rest .0 .0 .0 .0 .0 .0 .0 .0 .0 .0 .0 .0 .0 .0 .0 .1 in
-    let ne13 = c .before .match .rest .0 .0 .0 .0 .0 .0 .0 .0 .0 .0 .0 .0 .0 .0 .1 in
-    let ne14 = c .before .match .rest .0 .0 .0 .0 .0 .0 .0 .0 .0 .0 .0 .0 .0 .1 in
+    numbered (a .form) 32 (a .way) (a .a) (a .b) (a .c) _ (c .before .match .keys28) (c .goes-down .ensures)
+
+returns-29 : tie.Need-returns-29
+unfolding formAt
+returns-29 c =
+    let a = c .before .before .args in
+    numbered (a .form) 33 (a .way) (a .a) (a .b) (a .c) _ (c .before .match .keys29) (c .goes-down2 .ensures)
+
+returns-30 : tie.Need-returns-30
+unfolding formAt
+returns-30 c =
+    let a = c .before .before .args in
+    let ne1 = c .before .match .rest .0 .0 .0 .0 .0 .0 .0 .0 .0 .0 .0 .0 .0 .0 .0 .0 .0 .0 .0 .0 .0 .0 .0 .0 .0 .0 .0 .0 .1 in
+    let ne2 = c .before .match .rest .0 .0 .0 .0 .0 .0 .0 .0 .0 .0 .0 .0 .0 .0 .0 .0 .0 .0 .0 .0 .0 .0 .0 .0 .0 .0 .0 .1 in
+    let ne3 = c .before .match .rest .0 .0 .0 .0 .0 .0 .0 .0 .0 .0 .0 .0 .0 .0 .0 .0 .0 .0 .0 .0 .0 .0 .0 .0 .0 .0 .1 in
+    let ne4 = c .before .match .rest .0 .0 .0 .0 .0 .0 .0 .0 .0 .0 .0 .0 .0 .0 .0 .0 .0 .0 .0 .0 .0 .0 .0 .0 .0 .1 in
+    let ne5 = c .before .match .rest .0 .0 .0 .0 .0 .0 .0 .0 .0 .0 .0 .0 .0 .0 .0 .0 .0 .0 .0 .0 .0 .0 .0 .0 .1 in
+    let ne6 = c .before .match .rest .0 .0 .0 .0 .0 .0 .0 .0 .0 .0 .0 .0 .0 .0 .0 .0 .0 .0 .0 .0 .0 .0 .0 .1 in
+    let ne7 = c .before .match .rest .0 .0 .0 .0 .0 .0 .0 .0 .0 .0 .0 .0 .0 .0 .0 .0 .0 .0 .0 .0 .0 .0 .1 in
+    let ne8 = c .before .match .rest .0 .0 .0 .0 .0 .0 .0 .0 .0 .0 .0 .0 .0 .0 .0 .0 .0 .0 .0 .0 .0 .1 in
+    let ne9 = c .before .match .rest .0 .0 .0 .0 .0 .0 .0 .0 .0 .0 .0 .0 .0 .0 .0 .0 .0 .0 .0 .0 .1 in
+    let ne10 = c .before .match .rest .0 .0 .0 .0 .0 .0 .0 .0 .0 .0 .0 .0 .0 .0 .0 .0 .0 .0 .0 .1 in
+    let ne11 = c .before .match .rest .0 .0 .0 .0 .0 .0 .0 .0 .0 .0 .0 .0 .0 .0 .0 .0 .0 .0 .1 in
+    let ne12 = c .before .match .rest .0 .0 .0 .0 .0 .0 .0 .0 .0 .0 .0 .0 .0 .0 .0 .0 .0 .1 in
+    let ne13 = c .before .match .rest .0 .0 .0 .0 .0 .0 .0 .0 .0 .0 .0 .0 .0 .0 .0 .0 .1 in
+    let ne14 = c .before .match .rest .0 .0 .0 .0 .0 .0 .0 .0 .0 .0 .0 .0 .0 .0 .0 .1 in
+    let ne16 = c .before .match .rest .0 .0 .0 .0 .0 .0 .0 .0 .0 .0 .0 .0 .0 .0 .1 in
+    let ne17 = c .before .match .rest .0 .0 .0 .0 .0 .0 .0 .0 .0 .0 .0 .0 .0 .1 in
     let ne18 = c .before .match .rest .0 .0 .0 .0 .0 .0 .0 .0 .0 .0 .0 .0 .1 in
     let ne22 = c .before .match .rest .0 .0 .0 .0 .0 .0 .0 .0 .0 .0 .0 .1 in
     let ne23 = c .before .match .rest .0 .0 .0 .0 .0 .0 .0 .0 .0 .0 .1 in
@@ -298,8 +318,8 @@ returns-28 c =
     let ne31 = c .before .match .rest .0 .0 .1 in
     let ne32 = c .before .match .rest .0 .1 in
     let ne33 = c .before .match .rest .1 in
-    c .goes-down3 .ensures ∙ each-found (λ f. downOnly (a .way) true 0 ≡ choiceOf f (a .way) (a .a) (a .b) (a .c)) (a .form) Form.lockStatusRequest refl (formsBy 0) 0 (a .form) (sym (zero-add (a .form)))
-    ((λ e. refl), ((λ e. absurd (ne1 e)), ((λ e. absurd (ne2 e)), ((λ e. absurd (ne3 e)), ((λ e. absurd (ne4 e)), ((λ e. absurd (ne5 e)), ((λ e. absurd (ne6 e)), ((λ e. absurd (ne7 e)), ((λ e. absurd (ne8 e)), ((λ e. absurd (ne9 e)), ((λ e. absurd (ne10 e)), ((λ e. absurd (ne11 e)), ((λ e. absurd (ne12 e)), ((λ e. absurd (ne13 e)), ((λ e. absurd (ne14 e)), ((λ e. refl), ((λ e. refl), ((λ e. refl), ((λ e. absurd (ne18 e)), ((λ e. refl), ((λ e. refl), ((λ e. refl), ((λ e. absurd (ne22 e)), ((λ e. absurd (ne23 e)), ((λ e. absurd (ne24 e)), ((λ e. absurd (ne25 e)), ((λ e. absurd (ne26 e)), ((λ e. absurd (ne27 e)), ((λ e. absurd (ne28 e)), ((λ e. absurd (ne29 e)), ((λ e. absurd (ne30 e)), ((λ e. absurd (ne31 e)), ((λ e. absurd (ne32 e)), ((λ e. absurd (ne33 e)), tt))))))))))))))))))))))))))))))))))
+    c .goes-down3 .ensures ∙ each-found (λ f. downOnly (a .way) true 0 ≡ choiceOf f (a .way) (a .a) (a .b) (a .c)) (a .form) Form.goIntoBootMode refl (formsBy 0) 0 (a .form) (sym (zero-add (a .form)))
+    ((λ e. refl), ((λ e. absurd (ne1 e)), ((λ e. absurd (ne2 e)), ((λ e. absurd (ne3 e)), ((λ e. absurd (ne4 e)), ((λ e. absurd (ne5 e)), ((λ e. absurd (ne6 e)), ((λ e. absurd (ne7 e)), ((λ e. absurd (ne8 e)), ((λ e. absurd (ne9 e)), ((λ e. absurd (ne10 e)), ((λ e. absurd (ne11 e)), ((λ e. absurd (ne12 e)), ((λ e. absurd (ne13 e)), ((λ e. absurd (ne14 e)), ((λ e. refl), ((λ e. absurd (ne16 e)), ((λ e. absurd (ne17 e)), ((λ e. absurd (ne18 e)), ((λ e. refl), ((λ e. refl), ((λ e. refl), ((λ e. absurd (ne22 e)), ((λ e. absurd (ne23 e)), ((λ e. absurd (ne24 e)), ((λ e. absurd (ne25 e)), ((λ e. absurd (ne26 e)), ((λ e. absurd (ne27 e)), ((λ e. absurd (ne28 e)), ((λ e. absurd (ne29 e)), ((λ e. absurd (ne30 e)), ((λ e. absurd (ne31 e)), ((λ e. absurd (ne32 e)), ((λ e. absurd (ne33 e)), tt))))))))))))))))))))))))))))))))))
 
 pub choose-spec : {M : Type 1} → statement M
 choose-spec =
@@ -321,19 +341,21 @@ choose-spec =
     goes-up-requires-2
     goes-up-requires-3
     goes-up-requires-4
+    read-only-down-requires
+    read-only-down-requires-2
+    read-only-up-requires
     goes-up-requires-5
     goes-up-requires-6
-    goes-up-requires-7
     is-text-requires
-    goes-up-requires-8
+    goes-up-requires-7
     is-range-requires
+    goes-up-requires-8
     goes-up-requires-9
     goes-up-requires-10
     goes-up-requires-11
     goes-up-requires-12
     goes-up-requires-13
     goes-up-requires-14
-    goes-up-requires-15
     goes-down-requires
     goes-down-requires-2
     goes-down-requires-3
@@ -364,4 +386,6 @@ choose-spec =
     returns-25
     returns-26
     returns-27
-    returns-28)
+    returns-28
+    returns-29
+    returns-30)
