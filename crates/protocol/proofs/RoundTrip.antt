@@ -31,6 +31,12 @@ use Rattle.protocol.proofs.Selection.{headed as head, typed, long-enoug
 use Rattle.protocol.proofs.Sizes.{short}
 use Rattle.protocol.proofs.SelectionTrip.{Narrow, narrow-read, narrow-written, narrow-widths, Fitting, Leads, leads}
 
+-- ---- memory lock is read only
+
+pub memory-lock-refused : MemoryLockRefused
+unfolding encode encodeValues types
+memory-lock-refused = (λ opens. (refl, refl), λ opens. (refl, refl), λ status opens. (refl, refl))
+
 -- ---- what was read is written back
 
 -- a refusal that did not come
@@ -316,10 +322,6 @@ settling (Message'.VirtualConnect a b) = (refl, refl, refl)
 pub read-then-written : ReadThenWritten
 unfolding encode
 read-then-written way s b m kept e = values-written way s b (formOf m) (valuesOf m) kept e
-
-pub memory-lock-refused : MemoryLockRefused
-unfolding encode encodeValues types
-memory-lock-refused = (λ opens. (refl, refl), λ opens. (refl, refl), λ status opens. (refl, refl))
 
 pub written-then-read : WrittenThenRead
 unfolding encode
