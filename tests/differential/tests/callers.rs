@@ -231,6 +231,47 @@ fn callers_in_c_see_the_size_that_was_wanted() {
     }
 }
 
+/// A program in C that reads a 12 and a 13 and writes what it read, by the names of the header.
+const MEMORY_LOCK: &str = r#"
+#include "castanetash.h"
+#include <stdio.h>
+
+static void pass_on(const uint8_t *message, size_t length, uint8_t way) {
+    uint8_t out[CASTANETASH_LONGEST];
+    uint64_t row[CASTANETASH_ROW_CELLS];
+    uint64_t answer = castanetash_read(message, length, way, row, CASTANETASH_ROW_CELLS);
+    printf("read: refusal %u, form %u\n", (unsigned)CASTANETASH_REFUSAL(answer), (unsigned)row[CASTANETASH_ROW_FORM]);
+    answer = castanetash_write(row, CASTANETASH_ROW_CELLS, way, NULL, 0, out, sizeof out);
+    printf("written: refusal %u, place %u, %s\n", (unsigned)CASTANETASH_REFUSAL(answer),
+           (unsigned)CASTANETASH_PLACE(answer),
+           CASTANETASH_REFUSAL(answer) == CASTANETASH_REFUSED_READ_ONLY ? "only read" : "another refusal");
+}
+
+int main(void) {
+    const uint8_t request[] = {3, 0, 0x12};
+    const uint8_t status[] = {4, 0, 0x13, 0xFF};
+    pass_on(request, sizeof request, CASTANETASH_DOWN);
+    pass_on(status, sizeof status, CASTANETASH_UP);
+    return 0;
+}
+"#;
+
+#[test]
+fn callers_in_c_see_that_a_type_is_only_read() {
+    let source = temporary("memory_lock.c");
+    fs::write(&source, MEMORY_LOCK).expect("a source is written");
+    let wanted = "\
+read: refusal 0, form 17
+written: refusal 23, place 0, only read
+read: refusal 0, form 18
+written: refusal 23, place 0, only read
+";
+    for language in [Language::C, Language::Cpp] {
+        let program = build_source(&source, language, "memory_lock");
+        assert_eq!(accepted(&mut Command::new(program)), wanted, "{language:?}");
+    }
+}
+
 /// README's blocks of the section on use: each block of commands is followed by what every one of them prints.
 #[test]
 fn readme_commands_print_what_readme_says() {
@@ -740,6 +781,7 @@ fn refusals_are_those_of_the_second_program() {
         ("NO_DATASET", Refusal::NO_DATASET.number),
         ("NOT_FINITE", Refusal::NOT_FINITE.number),
         ("LOG_RECORD", Refusal::LOG_RECORD.number),
+        ("READ_ONLY", Refusal::READ_ONLY.number),
         ("ROW", 255),
     ];
     let wanted = wanted.map(|(name, number)| (format!("REFUSED_{name}"), u64::from(number)));
@@ -816,6 +858,16 @@ fn functions_for_rust_call_the_library() {
     assert_eq!(castanetash::write(&row, 0, &[1], &mut out), refused(6, 10));
     row[castanetash::input_format_setup::MODE] = 300;
     assert_eq!(castanetash::write(&row, 0, &[], &mut out), refused(7, 4));
+    // A 12 is only read.
+    assert_eq!(
+        castanetash::read(b"\x03\x00\x12", 0, &mut row),
+        Ok(castanetash::ROW_CELLS)
+    );
+    assert_eq!(row, [17, 0, 0, 0, 0, 0, 0, 0, 0, 0, 0, 0, 0, 0, 0, 0, 7]);
+    assert_eq!(castanetash::write(&row, 0, &[], &mut out), refused(23, 0));
+    assert_eq!(castanetash::write(&row, 0, &[1], &mut []), refused(23, 0));
+    assert_eq!(castanetash::write(&row, 1, &[], &mut out), refused(5, 2));
+    assert_eq!(out, *b"\x0A\x00\x41\x09\x03\x05\x00\x00\x00\x01\x07");
 
     let mut table = [7; TABLE_CELLS];
     let mut second = Table::default();
