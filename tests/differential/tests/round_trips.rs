@@ -3,16 +3,18 @@
 
 use std::collections::BTreeMap;
 
-use differential::{near_call, plausible, read, write, Call, Random, ROW_CELLS};
-use yardstick::examples::READ_ONLY;
+use differential::{near_call, number, plausible, read, read_only, write, Call, Random, READ_ONLY, ROW_CELLS};
 use yardstick::Form;
 
 /// How many messages are tried. Those that are accepted make the trip.
-const TRIED: usize = 1_500_000;
+const TRIED: usize = 1_700_000;
 
 /// The least number of messages that have to make the trip, in all and of each form.
 const TRIPS: u64 = 1_000_000;
 const EACH: u64 = 5000;
+
+/// The forms that are only read, by their numbers.
+const ONLY_READ: [u64; 3] = [16, 17, 18];
 
 /// An answer of the writer below this one is a length, the others are refusals.
 const REFUSED: usize = 128;
@@ -42,24 +44,21 @@ impl Trips {
         );
         assert!(all >= TRIPS, "{all} made the trip, not {TRIPS}");
         for form in Form::ALL {
-            let [made, ended] =
-                [&self.forms, &self.only_read].map(|seen| seen.get(&form.number().into()).copied().unwrap_or(0));
-            let (often, never) = if READ_ONLY.contains(&form) {
+            let form = u64::from(form.number());
+            let [made, ended] = [&self.forms, &self.only_read].map(|seen| seen.get(&form).copied().unwrap_or(0));
+            let (often, never) = if ONLY_READ.contains(&form) {
                 (ended, made)
             } else {
                 (made, ended)
             };
-            assert!(often >= EACH, "{form:?} came {often} times, not {EACH}");
-            assert_eq!(never, 0, "{form:?}: made {made}, ended {ended}");
+            assert!(often >= EACH, "form {form} came {often} times, not {EACH}");
+            assert_eq!(
+                never, 0,
+                "form {form} made the trip {made} times, and was refused {ended} times"
+            );
         }
     }
 }
-
-/// The answer to writing a message of a type that is only read, its own way.
-const ONLY_READ: u64 = 23 << 32;
-
-/// The forms of these types, by their numbers.
-const ONLY_READ_FORMS: [u64; 3] = [16, 17, 18];
 
 /// What stands in the output beforehand, other than the message at every place.
 fn complement(message: &[u8]) -> Vec<u8> {
@@ -82,9 +81,9 @@ fn read_then_write() {
         let open = &message[row[1] as usize..][..row[2] as usize];
         let mut output = complement(&message);
         let length = write(way, &row, open, &mut output);
-        if ONLY_READ_FORMS.contains(&row[0]) {
+        if ONLY_READ.contains(&row[0]) {
             trips.count_only_read(row[0]);
-            assert_eq!(length, ONLY_READ, "{message:02X?}");
+            assert_eq!(length, 23 << 32, "{message:02X?}");
             assert_eq!(output, complement(&message), "output of {message:02X?}");
             continue;
         }
@@ -115,10 +114,14 @@ fn write_then_read() {
         let call = near_call(&mut random);
         let form = call.form.number().into();
         let mut output = vec![0xA5; call.output];
-        let length = write(call.way, &call.row(), &call.open, &mut output) as usize;
-        if length as u64 == ONLY_READ && ONLY_READ_FORMS.contains(&form) {
-            trips.count_only_read(form);
+        let answer = write(call.way, &call.row(), &call.open, &mut output);
+        if let Some(refusal) = read_only(call.way, call.form) {
+            assert_eq!(answer, refusal, "{call:?}");
+            if number(refusal) == READ_ONLY {
+                trips.count_only_read(form);
+            }
         }
+        let length = answer as usize;
         if length >= REFUSED {
             assert_eq!(output, vec![0xA5; call.output], "output of {call:?}");
             continue;
