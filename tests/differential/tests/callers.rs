@@ -15,7 +15,7 @@ use std::process::{Command, Output};
 
 use castanetash::Refused;
 use differential::{printed, root, wanted};
-use yardstick::{decode, log_record, Form, Port, Refusal, Setup, State, Table, Way, Wiring};
+use yardstick::{decode, log_record, write_row, Form, Port, Refusal, Setup, State, Table, Way, Wiring};
 use yardstick::{LOG_RECORD, PLACES, TABLE_CELLS};
 
 /// The folder of the product's library.
@@ -32,6 +32,7 @@ written: 0C 00 01 01 01 42 65 6E 63 68 20 37
 read: name Bench 7
 refusal 7, place 4
 refusal 6, place 6
+refusal 23, place 0
 ";
 const PORT_TABLE: &str = "\
 refusal 14, place 0
@@ -678,19 +679,21 @@ fn enum_of(name: &str) -> Vec<(String, u64, String)> {
         .collect()
 }
 
-/// The header's forms are the second program's, and their comments say type, way and sizes as it has them.
+/// The header's forms are the second program's, and their comments say type, way and sizes as it has them, and which of
+/// them are read only.
 #[test]
 fn forms_are_those_of_the_second_program() {
     let forms = enum_of("form");
     assert_eq!(forms.len(), Form::COUNT);
-    for ((name, number, comment), (form, _, message, _)) in forms.into_iter().zip(SAMPLES) {
+    for ((name, number, comment), (form, way, message, _)) in forms.into_iter().zip(SAMPLES) {
         assert_eq!(name, format!("FORM_{}", name_of(form)));
         assert_eq!(number, u64::from(form.number()), "{name}");
         let wanted = format!(
-            "{:02X} {}, {} bytes",
+            "{:02X} {}, {} bytes{}",
             message[2],
             ways_of(form, message),
-            sizes_of(form, message)
+            sizes_of(form, message),
+            if is_read_only(way, message) { ", read only" } else { "" }
         );
         assert_eq!(comment, wanted, "{name}");
     }
@@ -730,6 +733,19 @@ fn sizes_of(form: Form, message: &[u8]) -> String {
         [size] => size.to_string(),
         [least, .., greatest] => format!("{least} to {greatest}"),
         [] => panic!("{form:?} has no size"),
+    }
+}
+
+/// Whether a message that is read is refused in writing, for being read only.
+fn is_read_only(way: Way, message: &[u8]) -> bool {
+    let decoded = decode(way, message).unwrap_or_else(|refusal| panic!("{message:02X?}: {refusal:?}"));
+    let open = &message[decoded.open.clone()];
+    match write_row(way, &decoded.row(), open, &mut [0; castanetash::LONGEST]) {
+        Ok(_) => false,
+        Err(refusal) => {
+            assert_eq!(refusal, Refusal::READ_ONLY, "{message:02X?}");
+            true
+        }
     }
 }
 
