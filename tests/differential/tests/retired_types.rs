@@ -1,5 +1,5 @@
-//! The types of the memory lock, 11, 12 and 13: they are read as ever, by every path, and writing them is refused with 23.
-//! All answers are written out by hand.
+//! The types of the memory lock, 11, 12 and 13: they are read as ever, by every path, and writing them is refused with
+//! 23. All answers are written out by hand.
 
 use differential::{
     castanetash_read, castanetash_read_block, castanetash_write, printed, refused, way_byte, Lent, LentTable, Random,
@@ -59,8 +59,8 @@ fn open(length: usize) -> Vec<u8> {
     (0..length).map(|place| (place * 89 + 7) as u8).collect()
 }
 
-/// Writes a row by both programs, each with an output that holds a pattern. Both have to refuse as expected, and nothing
-/// that is lent may change.
+/// Writes a row by both programs, each with an output that holds a pattern. Both have to refuse as expected, and
+/// nothing that is lent may change.
 #[track_caller]
 fn expect_refused(row: &mut Lent<u64>, way: Way, open: &mut Lent<u8>, output: usize, expected: u64) {
     let name = format!(
@@ -188,8 +188,8 @@ fn types_nearby_are_written() {
     assert_eq!(calls, 3 * (131 + 9) * 141);
 }
 
-/// Messages of 11, 12 and 13 in every size from 3 to 13, with any byte as the status and as the filling, and what reading
-/// them has to give: the row, or the refusal.
+/// Messages of 11, 12 and 13 in every size from 3 to 13, with any byte as the status and as the filling, and what
+/// reading them has to give: the row, or the refusal.
 fn messages() -> Vec<(Way, Vec<u8>, Result<Row, u64>)> {
     let row = |form: u64, count: u64, value: u64| {
         let mut row = [0; ROW_CELLS];

@@ -1,5 +1,5 @@
-//! What one function of the product accepts, the other turns back; but the types that are only read are not written. The
-//! second program plays no part in the answers.
+//! What one function of the product accepts, the other turns back; but the types that are only read are not written.
+//! The second program plays no part in the answers.
 
 use std::collections::BTreeMap;
 

@@ -1,5 +1,5 @@
-//! Both programs write every message as it is written out by hand, and refuse those that are refused by hand, among them
-//! the types that are only read.
+//! Both programs write every message as it is written out by hand, and refuse those that are refused by hand, among
+//! them the types that are only read.
 
 use differential::{read_only, refused, write, Call, WriteTally, OUTPUT, READ_ONLY};
 use yardstick::examples::{FORMS, WRITING};

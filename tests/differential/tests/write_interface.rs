@@ -129,7 +129,7 @@ fn values_outside_their_kind() {
         }
     }
     println!(
-        "values outside their kind: {fixed} selectors that the form decides, {wide} others, {only_read} only read\n{tally}"
+        "values outside their kind: {fixed} selectors that a form decides, {wide} others, {only_read} of a 13\n{tally}"
     );
     // Two examples of a 13, six numbers, two of three slices without open bytes, two outputs.
     assert!(fixed >= 100 && wide >= 1000 && only_read == 2 * 6 * 2 * 2);

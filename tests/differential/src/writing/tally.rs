@@ -49,8 +49,8 @@ impl WriteTally {
     }
 
     /// The same with any cells as the row. Panics too if a wrong size is told another size than the smallest one that
-    /// the form has by hand, or if a type that is only read, or another one, is refused otherwise than by hand. Gives
-    /// the answer.
+    /// the form has by hand, or if the answer to a type that is only read isn't the one by hand, or another type is
+    /// refused so. Gives the answer.
     pub fn compare_row(&mut self, way: Way, row: &[u64], open: &[u8], output: usize) -> u64 {
         let before = self.output_before(output);
         let expected = outcome(before, output, |lent| answer(write_row(way, row, open, lent)));
