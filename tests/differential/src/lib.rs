@@ -9,6 +9,7 @@ pub mod castanetash;
 mod lent;
 mod product;
 mod program;
+mod read_only;
 pub mod signed;
 mod table;
 mod tally;
@@ -23,9 +24,10 @@ pub use product::{
     castanetash_read, castanetash_read_block, castanetash_values, castanetash_write, read, way_byte, write,
 };
 pub use program::{logread, logread_by_shell, logread_path, printed, printed_in_pieces, root, run, wanted};
+pub use read_only::{read_only, READ_ONLY};
 pub use table::{dataset_cells, format_cells, offer_answer, port_cells, values_cells, LentTable, TableTally, Trio};
 pub use tally::Tally;
-pub use writing::{any_call, edges, near_call, outside, valid_calls, Call, WriteTally, OUTPUT};
+pub use writing::{any_call, edges, near_call, outside, valid_calls, valid_messages, Call, WriteTally, OUTPUT};
 pub use wrong_size::{wrong_size, WRONG_SIZE};
 pub use yardstick::traffic::{known_types, plausible};
 pub use yardstick::Random;

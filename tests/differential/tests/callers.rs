@@ -15,7 +15,7 @@ use std::process::{Command, Output};
 
 use castanetash::Refused;
 use differential::{printed, root, wanted};
-use yardstick::{decode, log_record, Form, Port, Refusal, Setup, State, Table, Way, Wiring};
+use yardstick::{decode, log_record, write_row, Form, Port, Refusal, Setup, State, Table, Way, Wiring};
 use yardstick::{LOG_RECORD, PLACES, TABLE_CELLS};
 
 /// The folder of the product's library.
@@ -32,6 +32,7 @@ written: 0C 00 01 01 01 42 65 6E 63 68 20 37
 read: name Bench 7
 refusal 7, place 4
 refusal 6, place 6
+refusal 23, place 0
 ";
 const PORT_TABLE: &str = "\
 refusal 14, place 0
@@ -228,6 +229,47 @@ fn callers_in_c_see_the_size_that_was_wanted() {
     for language in [Language::C, Language::Cpp] {
         let program = build_source(&source, language, "wrong_sizes");
         assert_eq!(accepted(&mut Command::new(program)), SIZES_WANTED, "{language:?}");
+    }
+}
+
+/// A program in C that reads a 12 and a 13 and writes what it read, by the names of the header.
+const MEMORY_LOCK: &str = r#"
+#include "castanetash.h"
+#include <stdio.h>
+
+static void pass_on(const uint8_t *message, size_t length, uint8_t way) {
+    uint8_t out[CASTANETASH_LONGEST];
+    uint64_t row[CASTANETASH_ROW_CELLS];
+    uint64_t answer = castanetash_read(message, length, way, row, CASTANETASH_ROW_CELLS);
+    printf("read: refusal %u, form %u\n", (unsigned)CASTANETASH_REFUSAL(answer), (unsigned)row[CASTANETASH_ROW_FORM]);
+    answer = castanetash_write(row, CASTANETASH_ROW_CELLS, way, NULL, 0, out, sizeof out);
+    printf("written: refusal %u, place %u, %s\n", (unsigned)CASTANETASH_REFUSAL(answer),
+           (unsigned)CASTANETASH_PLACE(answer),
+           CASTANETASH_REFUSAL(answer) == CASTANETASH_REFUSED_READ_ONLY ? "only read" : "another refusal");
+}
+
+int main(void) {
+    const uint8_t request[] = {3, 0, 0x12};
+    const uint8_t status[] = {4, 0, 0x13, 0xFF};
+    pass_on(request, sizeof request, CASTANETASH_DOWN);
+    pass_on(status, sizeof status, CASTANETASH_UP);
+    return 0;
+}
+"#;
+
+#[test]
+fn callers_in_c_see_that_a_type_is_only_read() {
+    let source = temporary("memory_lock.c");
+    fs::write(&source, MEMORY_LOCK).expect("a source is written");
+    let wanted = "\
+read: refusal 0, form 17
+written: refusal 23, place 0, only read
+read: refusal 0, form 18
+written: refusal 23, place 0, only read
+";
+    for language in [Language::C, Language::Cpp] {
+        let program = build_source(&source, language, "memory_lock");
+        assert_eq!(accepted(&mut Command::new(program)), wanted, "{language:?}");
     }
 }
 
@@ -637,19 +679,21 @@ fn enum_of(name: &str) -> Vec<(String, u64, String)> {
         .collect()
 }
 
-/// The header's forms are the second program's, and their comments say type, way and sizes as it has them.
+/// The header's forms are the second program's, and their comments say type, way and sizes as it has them, and which of
+/// them are read only.
 #[test]
 fn forms_are_those_of_the_second_program() {
     let forms = enum_of("form");
     assert_eq!(forms.len(), Form::COUNT);
-    for ((name, number, comment), (form, _, message, _)) in forms.into_iter().zip(SAMPLES) {
+    for ((name, number, comment), (form, way, message, _)) in forms.into_iter().zip(SAMPLES) {
         assert_eq!(name, format!("FORM_{}", name_of(form)));
         assert_eq!(number, u64::from(form.number()), "{name}");
         let wanted = format!(
-            "{:02X} {}, {} bytes",
+            "{:02X} {}, {} bytes{}",
             message[2],
             ways_of(form, message),
-            sizes_of(form, message)
+            sizes_of(form, message),
+            if is_read_only(way, message) { ", read only" } else { "" }
         );
         assert_eq!(comment, wanted, "{name}");
     }
@@ -689,6 +733,19 @@ fn sizes_of(form: Form, message: &[u8]) -> String {
         [size] => size.to_string(),
         [least, .., greatest] => format!("{least} to {greatest}"),
         [] => panic!("{form:?} has no size"),
+    }
+}
+
+/// Whether a message that is read is refused in writing, for being read only.
+fn is_read_only(way: Way, message: &[u8]) -> bool {
+    let decoded = decode(way, message).unwrap_or_else(|refusal| panic!("{message:02X?}: {refusal:?}"));
+    let open = &message[decoded.open.clone()];
+    match write_row(way, &decoded.row(), open, &mut [0; castanetash::LONGEST]) {
+        Ok(_) => false,
+        Err(refusal) => {
+            assert_eq!(refusal, Refusal::READ_ONLY, "{message:02X?}");
+            true
+        }
     }
 }
 
@@ -740,6 +797,7 @@ fn refusals_are_those_of_the_second_program() {
         ("NO_DATASET", Refusal::NO_DATASET.number),
         ("NOT_FINITE", Refusal::NOT_FINITE.number),
         ("LOG_RECORD", Refusal::LOG_RECORD.number),
+        ("READ_ONLY", Refusal::READ_ONLY.number),
         ("ROW", 255),
     ];
     let wanted = wanted.map(|(name, number)| (format!("REFUSED_{name}"), u64::from(number)));
@@ -816,6 +874,16 @@ fn functions_for_rust_call_the_library() {
     assert_eq!(castanetash::write(&row, 0, &[1], &mut out), refused(6, 10));
     row[castanetash::input_format_setup::MODE] = 300;
     assert_eq!(castanetash::write(&row, 0, &[], &mut out), refused(7, 4));
+    // A 12 is only read.
+    assert_eq!(
+        castanetash::read(b"\x03\x00\x12", 0, &mut row),
+        Ok(castanetash::ROW_CELLS)
+    );
+    assert_eq!(row, [17, 0, 0, 0, 0, 0, 0, 0, 0, 0, 0, 0, 0, 0, 0, 0, 7]);
+    assert_eq!(castanetash::write(&row, 0, &[], &mut out), refused(23, 0));
+    assert_eq!(castanetash::write(&row, 0, &[1], &mut []), refused(23, 0));
+    assert_eq!(castanetash::write(&row, 1, &[], &mut out), refused(5, 2));
+    assert_eq!(out, *b"\x0A\x00\x41\x09\x03\x05\x00\x00\x00\x01\x07");
 
     let mut table = [7; TABLE_CELLS];
     let mut second = Table::default();

@@ -21,6 +21,7 @@ const fn refusal(number: u64, place: u64) -> u64 {
 const UNREAD: u64 = refusal(1, 0);
 const NO_ROOM: u64 = refusal(8, 0);
 const NOT_SOUND: u64 = refusal(9, 0);
+const ONLY_READ: u64 = refusal(23, 0);
 const BAD_ROW: u64 = refusal(255, 0);
 
 /// A slice that is lent, or none: then the pointer is null.
@@ -75,9 +76,13 @@ fn table() -> [u32; TABLE_CELLS] {
 const VALUE: [u8; 5] = [0x05, 0x00, 0x45, 0x00, 0xFD];
 const DATASET: [u64; DATASET_CELLS] = [0, -3_i64 as u64, 0, 2, 0, 0];
 
-/// A message without values, and its row.
+/// A message without values that is only read, and its row.
 const REQUEST: [u8; 3] = [0x03, 0x00, 0x12];
 const REQUEST_ROW: [u64; ROW_CELLS] = [17, 0, 0, 0, 0, 0, 0, 0, 0, 0, 0, 0, 0, 0, 0, 0];
+
+/// A message without values that is written too, and its row.
+const BOOT: [u8; 12] = *b"\x0C\x00\x10LPF2-Boot";
+const BOOT_ROW: [u64; ROW_CELLS] = [15, 0, 0, 0, 0, 0, 0, 0, 0, 0, 0, 0, 0, 0, 0, 0];
 
 #[test]
 fn read() {
@@ -92,6 +97,7 @@ fn read() {
     }
     let row = || Slice::filled(ROW_CELLS + 2);
     expect(Slice::of(&REQUEST), row(), ROW_CELLS as u64, &REQUEST_ROW);
+    expect(Slice::of(&BOOT), row(), ROW_CELLS as u64, &BOOT_ROW);
     expect(Slice::NULL, row(), UNREAD, &[]);
     expect(Slice::of(&REQUEST), Slice::NULL, BAD_ROW, &[]);
     expect(Slice::NULL, Slice::NULL, UNREAD, &[]);
@@ -118,15 +124,16 @@ fn write() {
         open.expect(&[]);
         out.expect(written);
     }
-    let row = || Slice::of(&REQUEST_ROW);
+    let row = || Slice::of(&BOOT_ROW);
+    let only_read = || Slice::of(&REQUEST_ROW);
     // A text, property 1 with operation 1.
     let mut cells = [0; ROW_CELLS];
     cells[0] = 2;
     cells[4..6].copy_from_slice(&[1, 1]);
     let text = || Slice::of(&cells);
     let out = || Slice::filled(20);
-    expect(row(), Slice::of(&[]), out(), 3, &REQUEST);
-    expect(row(), Slice::NULL, out(), 3, &REQUEST);
+    expect(row(), Slice::of(&[]), out(), 12, &BOOT);
+    expect(row(), Slice::NULL, out(), 12, &BOOT);
     expect(Slice::NULL, Slice::of(b"x"), out(), BAD_ROW, &[]);
     expect(text(), Slice::of(b"x"), out(), 6, &[0x06, 0x00, 0x01, 0x01, 0x01, b'x']);
     // Six bytes were wanted: one of a text.
@@ -134,6 +141,11 @@ fn write() {
     expect(row(), Slice::of(&[]), Slice::NULL, NO_ROOM, &[]);
     expect(row(), Slice::NULL, Slice::NULL, NO_ROOM, &[]);
     expect(text(), Slice::of(b"x"), Slice::NULL, NO_ROOM, &[]);
+    // What is only read is refused before the open bytes and the output.
+    for open in [|| Slice::NULL, || Slice::of(&[]), || Slice::of(b"x")] {
+        expect(only_read(), open(), out(), ONLY_READ, &[]);
+        expect(only_read(), open(), Slice::NULL, ONLY_READ, &[]);
+    }
     expect(Slice::NULL, Slice::NULL, Slice::NULL, BAD_ROW, &[]);
 }
 

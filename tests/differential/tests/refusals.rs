@@ -163,6 +163,17 @@ fn write() {
         // The other way, with all else wrong too.
         call(UP, &row(21, &[300, 300, 1 << 32, 300]), b"xyz", out, refusal(5, 2), "");
         call(DOWN, &row(11, &[300, 300]), b"xyz", out, refusal(5, 2), "");
+        call(UP, &row(16, &[300]), b"xyz", out, refusal(5, 2), "");
+        call(UP, &row(17, &[300]), b"xyz", out, refusal(5, 2), "");
+        call(DOWN, &row(18, &[300]), b"xyz", out, refusal(5, 2), "");
+        // 11, 12 and 13 are only read, which comes next; alone, and with wrong open bytes and a wide number.
+        for open in [&b""[..], b"xyz"] {
+            call(DOWN, &row(16, &[]), open, out, refusal(23, 0), "");
+            call(DOWN, &row(17, &[]), open, out, refusal(23, 0), "");
+            for status in [0, 255, 256, 300, u64::MAX] {
+                call(UP, &row(18, &[status]), open, out, refusal(23, 0), "");
+            }
+        }
         // Selectors: in no list, wider than a byte, another form's; with wrong open bytes and a wide port.
         call(DOWN, &row(8, &[7]), b"xyz", out, refusal(7, 3), "");
         call(UP, &row(4, &[300, 6, 300]), b"xyz", out, refusal(7, 3), "");
@@ -173,7 +184,7 @@ fn write() {
         // size of the form, of a 43's list the one with a single entry.
         call(DOWN, &row(21, &[300, 300, 1, 300]), b"x", out, refusal(6, 10), "");
         call(UP, &row(12, &[300, 1, 0x26, 0, 0]), b"x", out, refusal(6, 15), "");
-        call(DOWN, &row(17, &[]), b"xyz", out, refusal(6, 3), "");
+        call(DOWN, &row(15, &[]), b"xyz", out, refusal(6, 12), "");
         call(UP, &row(24, &[300, 300, 0]), b"", out, refusal(6, 7), "");
         call(UP, &row(24, &[0, 1, 0]), b"twelve bytes", out, refusal(6, 7), "");
         call(DOWN, &row(2, &[1, 1]), b"", out, refusal(6, 6), "");
@@ -213,7 +224,7 @@ fn write() {
     for out in [11, 12, 127, 128, 200] {
         call(UP, &text, b"SPEED", out, 11, "0B 00 44 00 01 00 53 50 45 45 44");
     }
-    given.expect_all("castanetash_write", &[0, 5, 6, 7, 8, 255]);
+    given.expect_all("castanetash_write", &[0, 5, 6, 7, 8, 23, 255]);
 }
 
 /// A table with ports 0 to 5, 16 and 200. Port 0 sends two numbers of 16 bits in mode 0, as experiment 301 asked; port 1

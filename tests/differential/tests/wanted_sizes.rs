@@ -2,8 +2,8 @@
 //! expected is written out by hand, so that the two programs can't be wrong alike.
 
 use differential::{
-    castanetash_read_block, number, read, refused, row_answer, valid_calls, wrong_size, Call, Lent, LentTable, Tally,
-    WriteTally, OUTPUT, WRONG_SIZE,
+    castanetash_read_block, number, read, read_only, refused, row_answer, valid_calls, wrong_size, Call, Lent,
+    LentTable, Tally, WriteTally, OUTPUT, READ_ONLY, WRONG_SIZE,
 };
 use yardstick::examples::{bytes, has_right_size, smallest_size, wanted_size, FORMS, SELECTOR_SIZES};
 use yardstick::{decode, log_record, Form, MessageList, Refusal, Table, Way, LINE_ROOM, TABLE_CELLS};
@@ -210,16 +210,16 @@ fn length(call: &Call, open: usize) -> usize {
 }
 
 /// Every form with every number of open bytes from 0 to 128: too few, too many and, for most forms, any at all. The
-/// output doesn't matter to a wrong size.
+/// output doesn't matter to a wrong size. To a form that is only read neither matters.
 #[test]
 fn writing_every_form_with_every_number_of_open_bytes() {
     let mut tally = WriteTally::default();
     for call in valid_calls() {
         for open in 0..=MOST_OPEN {
-            let written = if may_have_open(&call, open) {
-                Ok(length(&call, open) as u64)
-            } else {
-                Err(wrong_size(smallest_size(call.form)))
+            let written = match read_only(call.way, call.form) {
+                Some(refusal) => Err(refusal),
+                None if may_have_open(&call, open) => Ok(length(&call, open) as u64),
+                None => Err(wrong_size(smallest_size(call.form))),
             };
             for output in [OUTPUT, 0] {
                 let by_hand = match written {
@@ -236,6 +236,7 @@ fn writing_every_form_with_every_number_of_open_bytes() {
     assert_eq!(tally.calls(), (valid_calls().len() * (MOST_OPEN + 1) * 2) as u64);
     // A value may have 1 to 123 open bytes, so 0 and 124 to 128 are wrong; there are three calls, with two outputs.
     tally.expect_forms([WRONG_SIZE], 6 * 3 * 2);
+    tally.expect_forms([READ_ONLY], (MOST_OPEN as u64 + 1) * 2);
 }
 
 /// Every count of a 43's list from 0 to 255, without open bytes, with one and with as many as an entry has. Whatever is

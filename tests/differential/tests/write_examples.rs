@@ -1,6 +1,7 @@
-//! Both programs write every message as it is written out by hand, and refuse those that are refused by hand.
+//! Both programs write every message as it is written out by hand, and refuse those that are refused by hand, among
+//! them the types that are only read.
 
-use differential::{refused, write, Call, WriteTally, OUTPUT};
+use differential::{read_only, refused, write, Call, WriteTally, OUTPUT, READ_ONLY};
 use yardstick::examples::{FORMS, WRITING};
 
 const FILLING: u8 = 0xA5;
@@ -14,13 +15,18 @@ fn form_examples() {
         let mut output = [FILLING; OUTPUT];
         let length = write(call.way, &call.row(), &call.open, &mut output);
         let name = format!("`{}` {:?}", example.message, example.way);
+        tally.compare(&call);
+        if let Some(answer) = read_only(call.way, call.form) {
+            assert_eq!(length, answer, "{name}");
+            assert_eq!(output, [FILLING; OUTPUT], "{name}");
+            continue;
+        }
         assert_eq!(length, bytes.len() as u64, "{name}");
         assert_eq!(output[..bytes.len()], bytes, "{name}");
         assert_eq!(output[bytes.len()..], [FILLING; OUTPUT][bytes.len()..], "{name}");
-        tally.compare(&call);
     }
     println!("examples of the forms, written: {tally}");
-    tally.expect_forms([0], 1);
+    tally.expect_forms([0, READ_ONLY], 1);
 }
 
 #[test]
@@ -41,6 +47,7 @@ fn writing_examples() {
         tally.compare(&call);
     }
     println!("examples of refused writing: {tally}");
-    tally.expect_numbers([5, 6, 7, 8, 255], 4);
+    tally.expect_numbers([5, 6, 7, 8, READ_ONLY, 255], 4);
+    tally.expect_forms([READ_ONLY], 5);
     assert_eq!(tally.seen(0), 0);
 }

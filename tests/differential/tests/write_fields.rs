@@ -1,6 +1,6 @@
 //! The fields of every form: every value of every byte, the edges of all fields, and every pair of selectors.
 
-use differential::{edges, valid_calls, Call, WriteTally};
+use differential::{edges, valid_calls, Call, WriteTally, READ_ONLY};
 use yardstick::{Form, Kind, Way};
 
 /// Every value of a kind that has one byte.
@@ -42,6 +42,8 @@ fn every_value_of_every_byte() {
     }
     println!("every value of every byte: {tally}");
     tally.expect_numbers([0, 5, 6, 7], 50_000);
+    // Every byte of a 13, of which there are two examples.
+    assert_eq!(tally.seen_for(Form::LockStatus, READ_ONLY), 2 * 256);
 }
 
 /// A valid call of a form.
@@ -100,6 +102,8 @@ fn all_edges() {
     }
     println!("all edges: {tally}");
     tally.expect_forms([0, 5, 6], 1);
+    // Without open bytes and twice with some.
+    tally.expect_forms([READ_ONLY], 3);
     tally.expect_numbers([0, 5, 6, 7], 10_000);
 }
 
@@ -161,6 +165,8 @@ fn every_width() {
     println!("every width: {tally}");
     tally.expect_forms([7, 255], 50);
     tally.expect_numbers([0, 5, 7], 1000);
+    // Four numbers for each bit, in two examples.
+    assert_eq!(tally.seen_for(Form::LockStatus, READ_ONLY), 2 * 64 * 4);
 }
 
 /// The floats of a mode's ranges: every sign and exponent, at both places.

@@ -1,7 +1,8 @@
 //! The edges of writing: rows that are too short or have no form, cells that aren't looked at, and the way.
 
 use differential::{
-    castanetash_write, number, outside, read, valid_calls, way_byte, Call, Lent, WriteTally, BAD_ROW, OUTPUT, ROW_CELLS,
+    castanetash_write, number, outside, read, read_only, valid_calls, valid_messages, way_byte, Call, Lent, WriteTally,
+    BAD_ROW, OUTPUT, READ_ONLY, ROW_CELLS,
 };
 use yardstick::{encode, Form, Kind, Message, Way};
 
@@ -20,13 +21,21 @@ fn written(way: u8, row: &[u64], open: &[u8]) -> (u64, Vec<u8>) {
     (answer, output.contents().to_vec())
 }
 
-/// What writing a valid call has to give.
+/// What writing a valid call has to give: its message, unless that is of a type that is only read.
 fn expected(call: &Call) -> (u64, Vec<u8>) {
+    if let Some(answer) = read_only(call.way, call.form) {
+        return nothing(answer);
+    }
     let message = Message::new(call.form, &call.values).expect("a valid call");
     let bytes = encode(call.way, message, &call.open).expect("a valid call");
+    holding(&bytes)
+}
+
+/// The answer and the output where a message is written.
+fn holding(message: &[u8]) -> (u64, Vec<u8>) {
     let mut output = Lent::filled(OUTPUT).contents().to_vec();
-    output[..bytes.len()].copy_from_slice(&bytes);
-    (bytes.len() as u64, output)
+    output[..message.len()].copy_from_slice(message);
+    (message.len() as u64, output)
 }
 
 /// What has to be given where nothing is written.
@@ -59,6 +68,8 @@ fn fewer_cells_are_no_row_and_more_are_not_looked_at() {
     }
     println!("rows of every length: {tally}");
     tally.expect_numbers([5, 6, 255], 500);
+    // 16 to 28 cells, with two outputs.
+    tally.expect_forms([READ_ONLY], 13 * 2);
 }
 
 #[test]
@@ -78,11 +89,12 @@ fn other_forms_are_no_message() {
     }
 }
 
-/// Each value in turn outside its kind: what the answer is hangs on the field, and the way comes first.
+/// Each value in turn outside its kind: what the answer is hangs on the field, and the way comes first. That of a 13 is
+/// not looked at.
 #[test]
 fn values_outside_their_kind() {
     let mut tally = WriteTally::default();
-    let [mut fixed, mut wide] = [0, 0];
+    let [mut fixed, mut wide, mut only_read] = [0, 0, 0];
     for valid in valid_calls() {
         for (index, &kind) in valid.form.kinds().iter().enumerate() {
             for value in outside(kind) {
@@ -97,6 +109,10 @@ fn values_outside_their_kind() {
                             }
                             // All else is right, so this value is what is refused. A selector is refused as such.
                             match kind {
+                                _ if valid.form == Form::LockStatus => {
+                                    assert_eq!(answer, (READ_ONLY as u64) << 32, "{call:?}");
+                                    only_read += 1;
+                                }
                                 Kind::Fixed(_) => {
                                     assert_eq!(number(answer), 7, "{call:?}");
                                     fixed += 1;
@@ -112,8 +128,11 @@ fn values_outside_their_kind() {
             }
         }
     }
-    println!("values outside their kind: {fixed} selectors that the form decides, {wide} others\n{tally}");
-    assert!(fixed >= 100 && wide >= 1000);
+    println!(
+        "values outside their kind: {fixed} selectors that a form decides, {wide} others, {only_read} of a 13\n{tally}"
+    );
+    // Two examples of a 13, six numbers, two of three slices without open bytes, two outputs.
+    assert!(fixed >= 100 && wide >= 1000 && only_read == 2 * 6 * 2 * 2);
     tally.expect_forms([7, 255], 4);
     tally.expect_numbers([5, 6, 7, 255], 500);
 }
@@ -146,7 +165,10 @@ fn other_cells_are_not_looked_at() {
 #[test]
 fn way_0_is_down_and_any_other_up() {
     for (form, values) in [
-        (Form::LockStatusRequest, &[][..]),
+        (Form::GoIntoBootMode, &[][..]),
+        (Form::GenericError, &[0x41, 5]),
+        (Form::LockMemory, &[]),
+        (Form::LockStatusRequest, &[]),
         (Form::LockStatus, &[0x55]),
         (Form::HubAction, &[0x30]),
         (Form::HubAction, &[0x2F]),
@@ -162,6 +184,9 @@ fn way_0_is_down_and_any_other_up() {
         for way in Way::BOTH {
             call.way = way;
             answers.push(written(way_byte(way), &call.row(), b""));
+            if let Some(answer) = read_only(way, form) {
+                assert_eq!(answers.last(), Some(&nothing(answer)), "{form:?} {way:?}");
+            }
             WriteTally::default().compare(&call);
         }
         assert_ne!(answers[0], answers[1], "{form:?} each way");
@@ -172,17 +197,26 @@ fn way_0_is_down_and_any_other_up() {
     }
 }
 
-/// The row that reading fills is the one that writing takes.
+/// The row that reading fills is the one that writing takes, and refuses if its type is only read.
 #[test]
 fn rows_go_through_as_they_are() {
-    for call in valid_calls() {
-        let (length, output) = expected(&call);
-        let message = &output[..length as usize];
-        let row = read(call.way, message).expect("a valid call's message");
-        assert_eq!(
-            written(way_byte(call.way), &row, &call.open),
-            (length, output),
-            "{call:?}"
-        );
+    let [mut through, mut only_read] = [0, 0];
+    for (way, message) in valid_messages() {
+        let row = read(way, &message).expect("a valid message");
+        let open = &message[row[1] as usize..][..row[2] as usize];
+        let form = Form::of_number(row[0]).expect("a form");
+        let expected = match read_only(way, form) {
+            Some(answer) => nothing(answer),
+            None => holding(&message),
+        };
+        assert_eq!(written(way_byte(way), &row, open), expected, "{message:02X?} {way:?}");
+        if number(expected.0) == READ_ONLY {
+            only_read += 1;
+        } else {
+            through += 1;
+        }
     }
+    println!("{through} rows go through, {only_read} are only read");
+    // 11 and 12, and 13 twice.
+    assert_eq!([through, only_read], [valid_calls().len() - 4, 4]);
 }

@@ -1,6 +1,6 @@
 //! Random messages to be written. The seeds are fixed, so every run compares the same ones.
 
-use differential::{any_call, near_call, Random, WriteTally};
+use differential::{any_call, near_call, Random, WriteTally, READ_ONLY};
 
 #[test]
 fn near_calls() {
@@ -12,7 +12,7 @@ fn near_calls() {
     println!("near calls: {tally}");
     tally.expect_numbers([0], 1_000_000);
     tally.expect_numbers([5, 6, 7, 8, 255], 30_000);
-    tally.expect_forms([0], 10_000);
+    tally.expect_forms([0, READ_ONLY], 10_000);
     tally.expect_forms([5, 6, 7, 8, 255], 200);
 }
 
@@ -27,5 +27,5 @@ fn any_calls() {
     tally.expect_numbers([0, 5, 6, 7, 8], 50_000);
     tally.expect_forms([0], 50);
     tally.expect_forms([6], 10);
-    tally.expect_forms([5, 7], 4000);
+    tally.expect_forms([5, 7, READ_ONLY], 4000);
 }

@@ -1,6 +1,6 @@
 //! How many open bytes and how much output a writer is lent.
 
-use differential::{valid_calls, Call, WriteTally, OUTPUT};
+use differential::{valid_calls, Call, WriteTally, OUTPUT, READ_ONLY};
 use yardstick::examples::WRITING;
 use yardstick::{Form, Way};
 
@@ -40,6 +40,8 @@ fn every_length_of_open_bytes() {
     println!("every length of open bytes: {tally}");
     tally.expect_forms([0, 5, 6], 2);
     tally.expect_forms([8], 1);
+    // Every length, with three outputs.
+    tally.expect_forms([READ_ONLY], (301 + beyond.len() as u64) * 3);
     // Texts of 1 to 14 and of 1 to 122 bytes, names of 1 to 11, symbols of 1 to 5 and values of 1 to 123.
     tally.expect_numbers([0], 2 * (14 + 122 + 11 + 5 + 123));
 }
@@ -78,6 +80,8 @@ fn every_length_of_output() {
     println!("every length of output: {tally}");
     tally.expect_forms([0, 5, 6, 8], 3);
     tally.expect_forms([7], 1);
+    // Outputs of 0 to 24 bytes, one more with an open byte, and 124 more with as many.
+    tally.expect_forms([READ_ONLY], 25 + 26 + 149);
     tally.expect_numbers([0, 5, 6, 7, 8], 1000);
 }
 

@@ -3,7 +3,9 @@
 
 use std::collections::BTreeMap;
 
-use yardstick::examples::{has_right_size, selected_form, smallest_size, wanted_size, FORMS, SELECTOR_SIZES};
+use yardstick::examples::{
+    has_right_size, selected_form, smallest_size, wanted_size, FORMS, READ_ONLY, SELECTOR_SIZES,
+};
 use yardstick::{decode, encode, Form, Message, Refusal, Way};
 
 /// The shortest message there is, and the longest.
@@ -56,9 +58,9 @@ impl WrongSizes {
         self.0.get(&number).copied().unwrap_or(0)
     }
 
-    fn expect_forms(&self, name: &str, least: u64) {
+    fn expect_forms(&self, name: &str, forms: impl IntoIterator<Item = Form>, least: u64) {
         println!("{name}: wrong sizes by form {:?}", self.0);
-        for form in Form::ALL {
+        for form in forms {
             let seen = self.seen(form.number());
             assert!(seen >= least, "{form:?} had a wrong size {seen} times, not {least}");
         }
@@ -88,7 +90,7 @@ fn every_size_by_hand() {
         }
     }
     // A value has every size from 5 on. There are two examples of it.
-    wrong.expect_forms("every size by hand", 2 * 3 * 2);
+    wrong.expect_forms("every size by hand", Form::ALL, 2 * 3 * 2);
     assert!(wrong.seen(0) >= 100);
 }
 
@@ -140,7 +142,7 @@ fn selectors_that_do_not_fit() {
 }
 
 /// Every form with every number of open bytes: 6 tells the smallest size of the form. That is the length of what is
-/// written with the fewest open bytes that aren't refused so.
+/// written with the fewest open bytes that aren't refused so. A form that is only read is told no size.
 #[test]
 fn every_number_of_open_bytes() {
     let mut wrong = WrongSizes::default();
@@ -153,6 +155,11 @@ fn every_number_of_open_bytes() {
         }
         let message = Message::new(form, &values).expect("the values of an example");
         let written = |open: usize| encode(example.way, message, &vec![b'x'; open]);
+        if READ_ONLY.contains(&form) {
+            let only_read = Refusal { number: 23, place: 0 };
+            assert!((0..=MOST_OPEN).all(|open| written(open) == Err(only_read)), "{form:?}");
+            continue;
+        }
         let fewest = (0..=MOST_OPEN).find(|&open| wanted(written(open).err()).is_none());
         let smallest = fewest.and_then(|open| written(open).ok()).map(|bytes| bytes.len());
         assert_eq!(smallest, Some(smallest_size(form)), "{form:?} {values:?}");
@@ -164,7 +171,9 @@ fn every_number_of_open_bytes() {
         }
     }
     // A value may have 1 to 123 open bytes, so for its two examples 0 and 124 to 128 are wrong.
-    wrong.expect_forms("every number of open bytes", 2 * 6);
+    let writable = Form::ALL.into_iter().filter(|form| !READ_ONLY.contains(form));
+    wrong.expect_forms("every number of open bytes", writable, 2 * 6);
+    assert!(READ_ONLY.iter().all(|form| wrong.seen(form.number()) == 0));
 }
 
 /// Every count of a 43's list, and some that are wider than a byte.

@@ -20,7 +20,7 @@ pub struct Call {
 }
 
 impl Call {
-    /// The call that writes a message, if it is an accepted one.
+    /// The call that writes a message, if that is one that reading accepts.
     pub fn writing(way: Way, message: &[u8]) -> Option<Call> {
         let decoded = decode(way, message).ok()?;
         Some(Call {
@@ -41,14 +41,19 @@ impl Call {
     }
 }
 
-/// Calls that write accepted messages: the examples of every form, and the longest texts and values.
-pub fn valid_calls() -> Vec<Call> {
-    let example = |message: &[u8], way| Call::writing(way, message).expect("the examples of forms are accepted");
-    let mut calls: Vec<Call> = FORMS.iter().map(|it| example(&it.bytes(), it.way)).collect();
+/// Messages that reading accepts: the examples of every form, and the longest texts and values.
+pub fn valid_messages() -> Vec<(Way, Vec<u8>)> {
+    let mut messages: Vec<(Way, Vec<u8>)> = FORMS.iter().map(|it| (it.way, it.bytes())).collect();
     for start in [[0x7F, 0, 0x01, 8, 6], [0x7F, 0, 0x01, 9, 6], [0x7F, 0, 0x45, 0, 0]] {
         let mut message = start.to_vec();
         message.extend(0x83..=0xFC);
-        calls.push(example(&message, Way::Up));
+        messages.push((Way::Up, message));
     }
-    calls
+    messages
+}
+
+/// Calls that write these. All are accepted but those of the types that are only read.
+pub fn valid_calls() -> Vec<Call> {
+    let call = |(way, message): (Way, Vec<u8>)| Call::writing(way, &message).expect("a message that is accepted");
+    valid_messages().into_iter().map(call).collect()
 }

@@ -1,15 +1,16 @@
 use std::fmt;
 
-use yardstick::examples::smallest_size;
+use yardstick::examples::{smallest_size, READ_ONLY as READ_ONLY_FORMS};
 use yardstick::{write_row, Form, Random, Way, ROW_CELLS};
 
 use super::call::Call;
 use crate::answer::{answer, number};
 use crate::product;
+use crate::read_only::{expect_read_only_by_hand, READ_ONLY};
 use crate::wrong_size::{wrong_size, WRONG_SIZE};
 
 /// The answers that are counted: acceptance, the refusals of writing, and rows that are no message's own.
-const NUMBERS: [usize; 6] = [0, 5, 6, 7, 8, 255];
+const NUMBERS: [usize; 7] = [0, 5, 6, 7, 8, READ_ONLY, 255];
 
 /// How many bytes before and after the output are looked at too.
 const MARGIN: usize = 8;
@@ -48,7 +49,8 @@ impl WriteTally {
     }
 
     /// The same with any cells as the row. Panics too if a wrong size is told another size than the smallest one that
-    /// the form has by hand. Gives the answer.
+    /// the form has by hand, or if the answer to a type that is only read isn't the one by hand, or another type is
+    /// refused so. Gives the answer.
     pub fn compare_row(&mut self, way: Way, row: &[u64], open: &[u8], output: usize) -> u64 {
         let before = self.output_before(output);
         let expected = outcome(before, output, |lent| answer(write_row(way, row, open, lent)));
@@ -60,8 +62,12 @@ impl WriteTally {
             let form = Form::of_number(row[0]).expect("a row without a form has no size");
             assert_eq!(expected.answer, wrong_size(smallest_size(form)), "{form:?}: {row:X?}");
         }
+        let form = form_of(row);
+        if let Some(form) = form {
+            expect_read_only_by_hand(way, form, expected.answer);
+        }
         self.calls += 1;
-        self.seen[form_number(row)][column(number(expected.answer))] += 1;
+        self.seen[form.map_or(0, Form::number) as usize][column(number(expected.answer))] += 1;
         expected.answer
     }
 
@@ -120,11 +126,10 @@ fn outcome(before: &[u8], length: usize, call: impl FnOnce(&mut [u8]) -> u64) ->
     Outcome { answer, output }
 }
 
-/// The number of a row's form, 0 if it has none or is too short.
-fn form_number(row: &[u64]) -> usize {
+/// A row's form, none if it is too short or has no form.
+fn form_of(row: &[u64]) -> Option<Form> {
     let is_row = row.len() >= ROW_CELLS;
-    let form = row.first().filter(|_| is_row).copied().and_then(Form::of_number);
-    form.map_or(0, |form| form.number().into())
+    row.first().filter(|_| is_row).copied().and_then(Form::of_number)
 }
 
 fn column(number: usize) -> usize {
@@ -134,14 +139,15 @@ fn column(number: usize) -> usize {
 
 /// Whether writing a form can give a number.
 fn can_get(form: Form, number: usize) -> bool {
+    if READ_ONLY_FORMS.contains(&form) {
+        return matches!(number, 5 | READ_ONLY);
+    }
     match number {
+        READ_ONLY => false,
         // 01, 02 and 03 go both ways.
         5 => form.number() >= Form::Detached.number(),
         // These have neither a selector nor a field with a list.
-        7 => !matches!(
-            form,
-            Form::GoIntoBootMode | Form::LockMemory | Form::LockStatusRequest | Form::LockStatus | Form::PortValue
-        ),
+        7 => !matches!(form, Form::GoIntoBootMode | Form::PortValue),
         // These have no field without a list.
         255 => !matches!(
             form,
@@ -152,8 +158,6 @@ fn can_get(form: Form, number: usize) -> bool {
                 | Form::AlertCommand
                 | Form::AlertUpdate
                 | Form::GoIntoBootMode
-                | Form::LockMemory
-                | Form::LockStatusRequest
         ),
         _ => true,
     }

@@ -3,7 +3,7 @@ use crate::refusal::Refusal;
 use crate::way::Way;
 
 /// Judges whether the form's type goes this way.
-pub(super) fn judge(way: Way, form: Form) -> Result<(), Refusal> {
+pub(super) fn judge_way(way: Way, form: Form) -> Result<(), Refusal> {
     let goes = match message_type(form) {
         0x01..=0x03 => true,
         0x04 | 0x05 | 0x13 | 0x43..=0x47 => way == Way::Up,
@@ -13,6 +13,14 @@ pub(super) fn judge(way: Way, form: Form) -> Result<(), Refusal> {
         Ok(())
     } else {
         Err(Refusal::MESSAGE_TYPE)
+    }
+}
+
+/// Judges whether the form's type is written at all. Those of the memory lock are only read.
+pub(super) fn judge_writable(form: Form) -> Result<(), Refusal> {
+    match message_type(form) {
+        0x11..=0x13 => Err(Refusal::READ_ONLY),
+        _ => Ok(()),
     }
 }
 

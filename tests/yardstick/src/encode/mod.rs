@@ -1,5 +1,5 @@
-//! Writing. Each step judges one part of the order for writing: 5, selectors 7, 6, fields 7, 8. The values may be any
-//! numbers of 64 bits: one that is wider than its field is 7 where the field has a list, else 255 before 8.
+//! Writing. Each step judges one part of the order for writing: 5, 23, selectors 7, 6, fields 7, 8. The values may be
+//! any numbers of 64 bits: one that is wider than its field is 7 where the field has a list, else 255 before 8.
 
 mod bytes;
 mod layout;
@@ -13,7 +13,8 @@ use crate::way::Way;
 
 /// Writes one message with its open bytes, or gives the first refusal in the order of the rules.
 pub fn encode(way: Way, message: Message, open: &[u8]) -> Result<Vec<u8>, Refusal> {
-    message_type::judge(way, message.form())?;
+    message_type::judge_way(way, message.form())?;
+    message_type::judge_writable(message.form())?;
     selectors::judge(way, message)?;
     size::judge(message, open)?;
     layout::lay_out(message, open)

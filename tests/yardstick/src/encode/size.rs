@@ -42,9 +42,8 @@ fn has_entries(message: Message) -> bool {
 fn width_of_fields(form: Form) -> usize {
     let width = |kinds: &[Kind]| kinds.iter().map(|kind| kind.width()).sum();
     match (form, form.kinds()) {
-        // The strings aren't among the values.
+        // The string isn't among the values.
         (Form::GoIntoBootMode, _) => b"LPF2-Boot".len(),
-        (Form::LockMemory, _) => b"Lock Mem".len(),
         // The count is among the values and isn't written, and one entry is the least.
         (Form::PortCombinations, &[port, information_type, _, entry, ..]) => width(&[port, information_type, entry]),
         (_, kinds) => width(kinds),

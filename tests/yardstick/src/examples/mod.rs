@@ -36,7 +36,7 @@ pub use table_step::{TableExample, TableStep};
 pub use tables::TABLES;
 pub use wanted_size::{has_right_size, selected_form, smallest_size, wanted_size, SELECTOR_SIZES};
 pub use whole_numbers::WHOLE_NUMBERS;
-pub use writing::{Unwritten, WRITING};
+pub use writing::{Unwritten, READ_ONLY, WRITING};
 
 /// A message with its answer.
 pub struct Example {

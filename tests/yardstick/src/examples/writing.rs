@@ -41,6 +41,17 @@ const fn refused_open(
     }
 }
 
+const fn read_only(way: Way, form: Form, values: &'static [u64], open: &'static [u8], output: usize) -> Unwritten {
+    Unwritten {
+        way,
+        form,
+        values,
+        open,
+        output,
+        refusal: Refusal { number: 23, place: 0 },
+    }
+}
+
 const fn short(way: Way, form: Form, values: &'static [u64], open: &'static [u8], output: usize) -> Unwritten {
     Unwritten {
         way,
@@ -52,8 +63,11 @@ const fn short(way: Way, form: Form, values: &'static [u64], open: &'static [u8]
     }
 }
 
-/// Messages that writing refuses: the order of the refusals, the edges of sizes, lists and widths. What 6 tells is the
-/// size that was wanted. What is accepted is in the examples of the forms.
+/// The forms that are read and not written, of types 11, 12 and 13. No program looks at them.
+pub const READ_ONLY: [Form; 3] = [Form::LockMemory, Form::LockStatusRequest, Form::LockStatus];
+
+/// Messages that writing refuses: the order of the refusals, the types that are only read, the edges of sizes, lists
+/// and widths. What 6 tells is the size that was wanted. What is accepted is in the examples of the forms.
 #[rustfmt::skip]
 pub const WRITING: &[Unwritten] = &[
     // The way comes first, before fields, open bytes and the output, however wide the numbers are.
@@ -63,6 +77,34 @@ pub const WRITING: &[Unwritten] = &[
     refused(Up, Form::LockStatusRequest, &[], 5, 2),
     refused_open(Up, Form::InputFormatSetup, &[0, 16, 1, 2], b"x", 5, 2),
     refused_open(Down, Form::ModeText, &[0, 16, 6], b"", 5, 2),
+    refused_open(Up, Form::GoIntoBootMode, &[], b"x", 5, 2),
+    // 11, 12 and 13 the other way, with and without open bytes.
+    refused(Up, Form::LockMemory, &[], 5, 2),
+    refused_open(Up, Form::LockMemory, &[], b"Lock Mem", 5, 2),
+    refused_open(Up, Form::LockStatusRequest, &[], b"x", 5, 2),
+    refused(Down, Form::LockStatus, &[0xFF], 5, 2),
+    refused(Down, Form::LockStatus, &[300], 5, 2),
+    refused_open(Down, Form::LockStatus, &[0xFF], b"x", 5, 2),
+    refused_open(Down, Form::LockStatus, &[u64::MAX], &[b'x'; 124], 5, 2),
+    // Their own way: they are only read. That comes before open bytes, wide numbers and the output.
+    read_only(Down, Form::LockMemory, &[], b"", 130),
+    read_only(Down, Form::LockMemory, &[], b"", 0),
+    read_only(Down, Form::LockMemory, &[], b"Lock Mem", 130),
+    read_only(Down, Form::LockMemory, &[], b"Lock Mem", 10),
+    read_only(Down, Form::LockMemory, &[], &[b'x'; 124], 0),
+    read_only(Down, Form::LockStatusRequest, &[], b"", 130),
+    read_only(Down, Form::LockStatusRequest, &[], b"", 3),
+    read_only(Down, Form::LockStatusRequest, &[], b"", 2),
+    read_only(Down, Form::LockStatusRequest, &[], b"", 0),
+    read_only(Down, Form::LockStatusRequest, &[], b"x", 130),
+    read_only(Down, Form::LockStatusRequest, &[], b"x", 0),
+    read_only(Up, Form::LockStatus, &[0xFF], b"", 130),
+    read_only(Up, Form::LockStatus, &[0xFF], b"", 3),
+    read_only(Up, Form::LockStatus, &[0], b"", 0),
+    read_only(Up, Form::LockStatus, &[0x55], b"x", 130),
+    read_only(Up, Form::LockStatus, &[300], b"", 130),
+    read_only(Up, Form::LockStatus, &[300], b"x", 0),
+    read_only(Up, Form::LockStatus, &[u64::MAX], &[b'x'; 124], 0),
     // Selectors come before open bytes and before other fields, and are judged left to right.
     refused_open(Down, Form::PropertyCommand, &[0, 0], b"x", 7, 3),
     refused_open(Down, Form::PropertyCommand, &[16, 5], b"x", 7, 3),
@@ -121,7 +163,6 @@ pub const WRITING: &[Unwritten] = &[
     refused(Up, Form::ModeBias, &[300, 300, 256 + 7, 300], 7, 5),
     refused(Down, Form::VirtualDisconnect, &[256, 300], 7, 3),
     // Open bytes that a form doesn't have: its own size was wanted, of a list the one with a single entry.
-    refused_open(Down, Form::LockStatusRequest, &[], b"x", 6, 3),
     refused_open(Down, Form::GoIntoBootMode, &[], b"LPF2-Boot", 6, 12),
     refused_open(Down, Form::PropertyCommand, &[1, 2], b"x", 6, 5),
     refused_open(Up, Form::PortCombinations, &[0, 2, 1, 0, 0, 0, 0, 0, 0, 0, 0], b"xx", 6, 7),
@@ -139,8 +180,6 @@ pub const WRITING: &[Unwritten] = &[
     refused_open(Up, Form::Attached, &[0, 1, 0x26, 0, 0], b"x", 6, 15),
     refused_open(Up, Form::AttachedVirtual, &[16, 2, 0x26, 0, 1], b"x", 6, 9),
     refused_open(Up, Form::GenericError, &[0x41, 5], b"x", 6, 5),
-    refused_open(Down, Form::LockMemory, &[], b"Lock Mem", 6, 11),
-    refused_open(Up, Form::LockStatus, &[0xFF], b"x", 6, 4),
     refused_open(Down, Form::PortInformationRequest, &[0, 1], b"x", 6, 5),
     refused_open(Down, Form::ModeInformationRequest, &[0, 2, 0x80], b"x", 6, 6),
     refused_open(Up, Form::PortModes, &[0, 1, 7, 4, 15, 15], b"x", 6, 11),
@@ -246,7 +285,6 @@ pub const WRITING: &[Unwritten] = &[
     refused(Up, Form::Attached, &[0, 1, 0, 0, 0xFFFF_FFFF], 255, 0),
     refused(Up, Form::AttachedVirtual, &[0, 2, 0, 0, 256], 255, 0),
     refused(Up, Form::GenericError, &[300, 8], 255, 0),
-    refused(Up, Form::LockStatus, &[300], 255, 0),
     refused(Down, Form::PortInformationRequest, &[256, 2], 255, 0),
     refused(Down, Form::ModeInformationRequest, &[u64::MAX, 15, 8], 255, 0),
     refused(Down, Form::InputFormatSetup, &[0, 15, 1 << 32, 1], 255, 0),
@@ -265,7 +303,7 @@ pub const WRITING: &[Unwritten] = &[
     refused(Down, Form::VirtualDisconnect, &[0, 300], 255, 0),
     refused(Down, Form::VirtualConnect, &[1, 0, 300], 255, 0),
     // The output.
-    short(Down, Form::LockStatusRequest, &[], b"", 2),
+    short(Down, Form::HubAction, &[1], b"", 3),
     short(Down, Form::GoIntoBootMode, &[], b"", 11),
     short(Down, Form::InputFormatSetup, &[0, 15, 1, 1], b"", 9),
     short(Up, Form::PortCombinations, &[0, 2, 8, 1, 2, 3, 4, 5, 6, 7, 8], b"", 20),

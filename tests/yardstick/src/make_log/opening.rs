@@ -50,9 +50,10 @@ impl Opening {
         self.sent_up(Form::AlertUpdate, &[1, 4, 0xFF]);
         self.sent_up(Form::GenericError, &[0x41, 5]);
         self.sent_down(Form::GoIntoBootMode, &[]);
-        self.sent_down(Form::LockMemory, &[]);
-        self.sent_down(Form::LockStatusRequest, &[]);
-        self.sent_up(Form::LockStatus, &[0xFF]);
+        // The memory lock, as old logs have it: its types are no longer written.
+        self.down(b"\x0B\x00\x11Lock Mem");
+        self.down(&[0x03, 0x00, 0x12]);
+        self.up(&[0x04, 0x00, 0x13, 0xFF]);
     }
 
     /// Refusals 10, 11 and 12 too.

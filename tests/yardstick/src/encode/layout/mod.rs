@@ -1,4 +1,4 @@
-//! The bytes of each form, with the fields judged left to right.
+//! The bytes of each form that is written, with the fields judged left to right.
 
 mod firmware;
 mod hub;
@@ -20,7 +20,7 @@ pub(super) fn lay_out(message: Message, open: &[u8]) -> Result<Vec<u8>, Refusal>
     match message_type {
         0x01 => hub_property::property(&mut bytes, form, values)?,
         0x02..=0x05 => hub::lay_out(&mut bytes, form, values)?,
-        0x10..=0x13 => firmware::lay_out(&mut bytes, form, values),
+        0x10 => firmware::go_into_boot_mode(&mut bytes),
         0x44 => mode_information::information(&mut bytes, form, values)?,
         _ => port::lay_out(&mut bytes, form, values)?,
     }
