@@ -59,7 +59,7 @@ fn goes_up(way: Way, leads: bool, place: u16) -> Choice
     }
 }
 
-// A type that went down only and is read only now.
+// A type that goes down only, and is read only.
 fn read_only_down(way: Way) -> Choice
     ensures { λ r. ⌜ r ≡ downReadOnly way ⌝ }
 {
@@ -75,7 +75,7 @@ fn read_only_down(way: Way) -> Choice
     }
 }
 
-// The same of a type that went up only.
+// The same of one that goes up only.
 fn read_only_up(way: Way) -> Choice
     ensures { λ r. ⌜ r ≡ upReadOnly way ⌝ }
 {
