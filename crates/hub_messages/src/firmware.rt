@@ -14,7 +14,7 @@ ghost use Rattle.protocol.specs.Form as Form;
 ghost use Rattle.protocol.specs.Decode.{decodeForm};
 ghost use Rattle.protocol.specs.Answer.{answerOf};
 
-// The safety strings, which reading compares with and writing writes.
+// The safety strings, which reading compares with. The first is written too.
 pub const BOOT_STRING: [u8; 9] = *b"LPF2-Boot";
 
 pub const LOCK_STRING: [u8; 8] = *b"Lock Mem";

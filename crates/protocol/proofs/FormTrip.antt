@@ -206,15 +206,15 @@ rest-read (words most) ws opens cs xs t end shape right w d n =
     rw is (words-rest most (shape .0) (shape .1) opens cs xs t end (shape .3) (shape .4) right′ w′ d n)
 
 -- a form that was written: its rest was right, and its fields and rest were written
-pub record Wrote (f : Form) (vs : List Value) (opens t : List ℕ) : Type 0 where
-  pub right : restFits (layout f .rest) (afterFields (layout f .fields) vs) (length opens) ≡ true
-  pub front : List ℕ
-  pub left : List Value
-  pub front-is : writeFields header (layout f .fields) vs ≡ wrote front left
-  pub back : List ℕ
-  pub unused : List Value
-  pub back-is : writeRest (fieldsEnd f) (layout f .rest) left opens ≡ wrote back unused
-  pub bytes : t ≡ framed (code f) (front ++ back)
+record Wrote (f : Form) (vs : List Value) (opens t : List ℕ) : Type 0 where
+  right : restFits (layout f .rest) (afterFields (layout f .fields) vs) (length opens) ≡ true
+  front : List ℕ
+  left : List Value
+  front-is : writeFields header (layout f .fields) vs ≡ wrote front left
+  back : List ℕ
+  unused : List Value
+  back-is : writeRest (fieldsEnd f) (layout f .rest) left opens ≡ wrote back unused
+  bytes : t ≡ framed (code f) (front ++ back)
 
 record Joined (at : ℕ) (r : Rest) (opens : List ℕ) (w : Written) (c : ℕ) (t : List ℕ) : Type 0 where
   front : List ℕ
@@ -233,7 +233,7 @@ joined f at r opens (wrote bs vs) t e = second (writeRest at r vs opens) refl e
     second (Encode'.outside place) k g = let z : _≡_ {A = ℕ} 0 1 = cc in absurd (omega arith)
     second (wrote cs xs) k g = record { front = bs; left = vs; front-is = refl; back = cs; unused = xs; back-is = k; bytes = cc }
 
-pub was-written : (f : Form) (vs : List Value) (opens t : List ℕ) → encodeForm f vs opens ≡ encoded t → Wrote f vs opens t
+was-written : (f : Form) (vs : List Value) (opens t : List ℕ) → encodeForm f vs opens ≡ encoded t → Wrote f vs opens t
 unfolding encodeForm
 was-written f vs opens t e =
     let fs : List Field = layout f .fields in
