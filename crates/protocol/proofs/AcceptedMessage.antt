@@ -11,7 +11,7 @@ use Rattle.protocol.specs.Properties.{carries}
 use Rattle.protocol.specs.Field.{Value}
 use Rattle.protocol.specs.Form
 use Rattle.protocol.specs.Form.{Form, layout}
-use Rattle.protocol.specs.Types.{Selection, always, select, MessageType, selectors, payload, types, hubProperties, hubActions, hubAlerts, hubAttachedIo, portInformation, portModeInformation, virtualPortSetup}
+use Rattle.protocol.specs.Types.{Selection, always, select, MessageType, selectors, payload, types, hubProperties, hubActions, hubAlerts, hubAttachedIo, portInformation, portModeInformation, virtualPortSetup, portOutputCommand}
 use Rattle.protocol.specs.Decode.{accepted, header, decodeForm, decodeSelection}
 use Rattle.protocol.specs.Answer.{naturalAt, answerOf, messageOf}
 use Rattle.protocol.specs.RoundTrip.{AcceptedIsMessage}
@@ -143,12 +143,23 @@ virtual-messages sub listed =
     by-test (eqb sub 0) Form.virtualDisconnect Form.virtualConnect P (λ yes s p is. rw (is ∙ eqb-true sub 0 yes) refl) λ no s a b is.
     rw (is ∙ only-one 1 sub (rw no at listed)) refl
 
+output-messages : AreMessages 0x81 portOutputCommand
+unfolding portOutputCommand layout
+output-messages sub listed =
+    let P : Form → List Value → Type 0 = λ f vs. naturalAt vs 2 ≡ sub → IsMessage f vs in
+    let f1 : Form = cond (eqb sub 0x0E) Form.gotoAbsolutePositions Form.presetEncoders in
+    let f2 : Form = cond (eqb sub 0x0D) Form.gotoAbsolutePosition f1 in
+    by-test (eqb sub 0x0C) Form.startSpeedForDegrees f2 P (λ yes p s c d l r w e u is. rw (is ∙ eqb-true sub 0x0C yes) refl) λ no1.
+    by-test (eqb sub 0x0D) Form.gotoAbsolutePosition f1 P (λ yes p s c a v w e u is. rw (is ∙ eqb-true sub 0x0D yes) refl) λ no2.
+    by-test (eqb sub 0x0E) Form.gotoAbsolutePositions Form.presetEncoders P (λ yes p s c a b v w e u is. rw (is ∙ eqb-true sub 0x0E yes) refl) λ no3 p s c l r is.
+    rw (is ∙ only-one 0x14 sub (rw (no1, no2, no3) at listed)) refl
+
 all-messages : (way : Way) → Every AreMessages (types way)
 unfolding types layout
 all-messages Down =
-    (properties-messages Down, (actions-messages Down, (alerts-messages Down, (refl, (refl, (refl, ((λ p i. refl), ((λ p m i. refl), ((λ p m d n. refl), (virtual-messages, tt))))))))))
+    (properties-messages Down, (actions-messages Down, (alerts-messages Down, (refl, (refl, (refl, ((λ p i. refl), ((λ p m i. refl), ((λ p m d n. refl), (virtual-messages, (output-messages, tt)))))))))))
 all-messages Up =
-    (properties-messages Up, (actions-messages Up, (alerts-messages Up, (attached-messages, ((λ c e. refl), ((λ v. refl), (information-messages, (mode-messages, ((λ p. refl), ((λ p m d n. refl), tt))))))))))
+    (properties-messages Up, (actions-messages Up, (alerts-messages Up, (attached-messages, ((λ c e. refl), ((λ v. refl), (information-messages, (mode-messages, ((λ p. refl), ((λ p m d n. refl), (refl, tt)))))))))))
 
 pub accepted-is-message : AcceptedIsMessage
 accepted-is-message way s f vs e =

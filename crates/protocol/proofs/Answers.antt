@@ -39,6 +39,11 @@ message-back (Message'.PortValue p) = refl
 message-back (Message'.InputFormat p m d n) = refl
 message-back (Message'.VirtualDisconnect p) = refl
 message-back (Message'.VirtualConnect a b) = refl
+message-back (Message'.StartSpeedForDegrees p s d l r w e u) = refl
+message-back (Message'.GotoAbsolutePosition p s a v w e u) = refl
+message-back (Message'.GotoAbsolutePositions p s a b v w e u) = refl
+message-back (Message'.PresetEncoders p s l r) = refl
+message-back Message'.OutputFeedback = refl
 
 pub answers-differ : (a b : Message) → answerOf (Accepted a) ≡ answerOf (Accepted b) → a ≡ b
 answers-differ a b e = sym (message-back a) ∙ ap messageOfAnswer e ∙ message-back b

@@ -7,15 +7,16 @@ use mathlib.Core.List.{List, [], _∷_, _++_}
 use mathlib.Core.Logic.{⊎-elim}
 use borrow.Author.Tests.{lt-ltb, ltb-true, eqb-true, eq-eqb}
 use lib.Dec.{T, ltb, eqb}
+use lib.IntN.{ℤ}
 use lib.Ieee.{Float, binary32, ofBits, toBits}
 use lib.Ieee as Ieee
 use lib.Ieee.Bits.{toBits-ofBits, ofBits-toBits, ofBits-fits, toBits-lt}
 use lib.ListN.{length, getD, take, drop, length-reverse}
 use Rattle.protocol.specs.Number.{Bytes, littleEndian, bigEndian, twosComplement, isFinite}
-use Rattle.protocol.specs.Rule.{Rule}
+use Rattle.protocol.specs.Rule.{Rule, SignedRule}
 use Rattle.protocol.specs.Field.{Field, number, highFirst, signed, float, fixed, Value, natural, integer, real, width, values, within, sameBytes, readField}
 use Rattle.protocol.specs.Field as Field'
-use Rattle.protocol.specs.Encode.{lowFirst, ofInteger, holds, fieldBytes, good, bad, taken, stepField, afterField, frontValue}
+use Rattle.protocol.specs.Encode.{lowFirst, ofInteger, inRange, holds, fieldBytes, good, bad, taken, stepField, afterField, frontValue}
 use Rattle.protocol.proofs.Tests.{which, and-left, and-right}
 use Rattle.protocol.proofs.Bytes.{part, part-cons, low-little, little-lt, high-big, big-lt, little-low, big-high, low-length}
 use Rattle.protocol.proofs.Signed.{integer-back, integer-ranged, integer-lt, integer-forth}
@@ -25,7 +26,7 @@ use Rattle.protocol.proofs.Floats.{not-nan}
 abbrev pub Proper : Field → Type 0
 Proper (number w rule) = Unit {0}
 Proper (highFirst w) = Unit {0}
-Proper (signed w) = 1 ≤ w
+Proper (signed w rule) = 1 ≤ w
 Proper float = Unit {0}
 Proper (fixed bytes) = Unit {0}
 
@@ -71,11 +72,12 @@ read-step (highFirst w) p s at b h ws rest e =
     let n : ℕ = bigEndian s at w in
     let k : ws ≡ natural n ∷ [] = cc in
     rw k (taken-held (highFirst w) (natural n) rest (part s at w) (lt-ltb n (256 ^ w) (big-lt s at w b h)) (high-big s at w b h))
-read-step (signed w) p s at b h ws rest e =
+read-step (signed w rule) p s at b h ws rest e =
     let n : ℕ = littleEndian s at w in
-    let k : ws ≡ integer (twosComplement w n) ∷ [] = cc in
-    rw k
-    (taken-held (signed w) (integer (twosComplement w n)) rest (part s at w) (integer-ranged w p n (little-lt s at w b h))
+    let z : ℤ = twosComplement w n in
+    let k = within-yes (rule z) at (integer z) ws e in
+    rw (k .1)
+    (taken-held (signed w rule) (integer z) rest (part s at w) (both (inRange w z) (rule z) (integer-ranged w p n (little-lt s at w b h)) (k .0))
     (ap (lowFirst w) (integer-back w p n (little-lt s at w b h)) ∙ low-little s at w b h))
 read-step float p s at b h ws rest e =
     let n : ℕ = littleEndian s at 4 in
@@ -123,10 +125,12 @@ module _ (s : List ℕ) (at : ℕ) where
   read-high w (integer z) h k e = never k
   read-high w (real x) h k e = never k
 
-  read-signed : (w : ℕ) → 1 ≤ w → (v : Value) → at + w ≤ length s → holds (signed w) v ≡ true → part s at w ≡ fieldBytes (signed w) v → readField s at (signed w) ≡ values (v ∷ [])
-  read-signed w p (natural n) h k e = never k
-  read-signed w p (integer z) h k e = rw (little-low s at w (ofInteger w z) h e (integer-lt w p z k), integer-forth w p z k)
-  read-signed w p (real x) h k e = never k
+  read-signed : (w : ℕ) (rule : SignedRule) → 1 ≤ w → (v : Value) → at + w ≤ length s → holds (signed w rule) v ≡ true → part s at w ≡ fieldBytes (signed w rule) v → readField s at (signed w rule) ≡ values (v ∷ [])
+  read-signed w rule p (natural n) h k e = never k
+  read-signed w rule p (integer z) h k e =
+      let ranged : inRange w z ≡ true = and-left (inRange w z) (rule z) k in
+      rw (little-low s at w (ofInteger w z) h e (integer-lt w p z ranged), integer-forth w p z ranged, and-right (inRange w z) (rule z) k)
+  read-signed w rule p (real x) h k e = never k
 
   read-float : (v : Value) → at + 4 ≤ length s → holds float v ≡ true → part s at 4 ≡ fieldBytes float v → readField s at float ≡ values (v ∷ [])
   read-float (natural n) h k e = never k
@@ -170,8 +174,8 @@ step-read (number w rule) p vs bs ws g s at h e =
     by-taken (number w rule) s at vs bs ws (taken-good (number w rule) vs bs ws g) (λ v. read-number s at w rule v h) e refl
 step-read (highFirst w) p vs bs ws g s at h e =
     by-taken (highFirst w) s at vs bs ws (taken-good (highFirst w) vs bs ws g) (λ v. read-high s at w v h) e refl
-step-read (signed w) p vs bs ws g s at h e =
-    by-taken (signed w) s at vs bs ws (taken-good (signed w) vs bs ws g) (λ v. read-signed s at w p v h) e refl
+step-read (signed w rule) p vs bs ws g s at h e =
+    by-taken (signed w rule) s at vs bs ws (taken-good (signed w rule) vs bs ws g) (λ v. read-signed s at w rule p v h) e refl
 step-read float p vs bs ws g s at h e =
     by-taken float s at vs bs ws (taken-good float vs bs ws g) (λ v. read-float s at v h) e refl
 step-read (fixed bytes) p vs bs ws g s at h e =
@@ -186,9 +190,9 @@ held-length (number w rule) (real x) k = never k
 held-length (highFirst w) (natural n) k = rw length-reverse (low-length w n)
 held-length (highFirst w) (integer z) k = never k
 held-length (highFirst w) (real x) k = never k
-held-length (signed w) (natural n) k = never k
-held-length (signed w) (integer z) k = low-length w (ofInteger w z)
-held-length (signed w) (real x) k = never k
+held-length (signed w rule) (natural n) k = never k
+held-length (signed w rule) (integer z) k = low-length w (ofInteger w z)
+held-length (signed w rule) (real x) k = never k
 held-length float (natural n) k = never k
 held-length float (integer z) k = never k
 held-length float (real x) k = low-length 4 (toBits binary32 x)
@@ -202,7 +206,7 @@ taken-length f vs bs ws g =
 pub step-length : (f : Field) (vs : List Value) (bs : List ℕ) (ws : List Value) → stepField f vs ≡ good bs ws → length bs ≡ width f
 step-length (number w rule) vs bs ws g = taken-length (number w rule) vs bs ws g
 step-length (highFirst w) vs bs ws g = taken-length (highFirst w) vs bs ws g
-step-length (signed w) vs bs ws g = taken-length (signed w) vs bs ws g
+step-length (signed w rule) vs bs ws g = taken-length (signed w rule) vs bs ws g
 step-length float vs bs ws g = taken-length float vs bs ws g
 step-length (fixed bytes) vs bs ws g = let same : bytes ≡ bs = cc in ap length (sym same)
 
@@ -213,6 +217,6 @@ taken-after f vs bs ws g = rw (taken-good f vs bs ws g .front)
 pub step-after : (f : Field) (vs : List Value) (bs : List ℕ) (ws : List Value) → stepField f vs ≡ good bs ws → afterField f vs ≡ ws
 step-after (number w rule) vs bs ws g = taken-after (number w rule) vs bs ws g
 step-after (highFirst w) vs bs ws g = taken-after (highFirst w) vs bs ws g
-step-after (signed w) vs bs ws g = taken-after (signed w) vs bs ws g
+step-after (signed w rule) vs bs ws g = taken-after (signed w rule) vs bs ws g
 step-after float vs bs ws g = taken-after float vs bs ws g
 step-after (fixed bytes) vs bs ws g = cc

@@ -11,17 +11,18 @@ use lib.Dec.{leb, eqb}
 use lib.ListN.{length, take, drop, length-append, length-drop, drop-of-length-le, take-append-drop}
 use lib.Seq.{take-all, take-at, drop-at, drop-drop}
 use Rattle.protocol.specs.Number.{Bytes}
+use Rattle.protocol.specs.Rule.{between}
 use Rattle.protocol.specs.Field.{Field, Value, natural, widths, Fields, values, andThen, readFields}
 use Rattle.protocol.specs.Field as Field'
 use Rattle.protocol.specs.Form
-use Rattle.protocol.specs.Form.{Form, Rest, nothing, openRun, words, layout, fits, wordsFrom, upFrom, readRest, openBytes, code}
+use Rattle.protocol.specs.Form.{Form, Rest, nothing, openRun, words, layout, whole, fits, wordsFrom, upFrom, wrongByte, readRest, openBytes, code}
 use Rattle.protocol.specs.Decode.{accepted, wrongSize, header, fieldsEnd, sizeFits, valuesOrRefusal, decodeForm}
-use Rattle.protocol.specs.Encode.{encoded, Written, wrote, before, writeFields, restFits, writeRest, thenRest, framed, closed, afterFields, encodeForm, settleRest, settledValues}
+use Rattle.protocol.specs.Encode.{encoded, Written, wrote, before, writeFields, restFits, writeRun, writeRest, thenRest, framed, closed, afterFields, encodeForm, settleRest, settledValues}
 use Rattle.protocol.specs.Encode as Encode'
 use Rattle.protocol.proofs.Tests.{which, and-left, and-right}
 use Rattle.protocol.proofs.Bytes.{part}
 use Rattle.protocol.proofs.FieldsTrip.{AllProper, Both, both-read, fields-written, wrote-length, wrote-after, fields-read}
-use Rattle.protocol.proofs.RestTrip.{entries, entries-widths, words-written, words-read, Naturals}
+use Rattle.protocol.proofs.RestTrip.{run-read, run-written, entries, entries-widths, words-written, words-read, Naturals}
 
 -- every form's fields are proper
 pub proper : (f : Form) → AllProper (layout f .fields)
@@ -59,6 +60,11 @@ proper Form.portValue = omega arith
 proper Form.inputFormat = omega arith
 proper Form.virtualDisconnect = omega arith
 proper Form.virtualConnect = omega arith
+proper Form.startSpeedForDegrees = omega arith
+proper Form.gotoAbsolutePosition = omega arith
+proper Form.gotoAbsolutePositions = omega arith
+proper Form.presetEncoders = omega arith
+proper Form.outputFeedback = omega arith
 
 -- ---- what was read is written back
 
@@ -73,14 +79,16 @@ rest-written : (r : Rest) (s : List ℕ) → Bytes s → (end : ℕ) → fits r 
 rest-written nothing s b end f rs e =
     let size : length s ≡ end = eqb-true (length s) end f in
     record { room = omega arith; right = refl; left = rs; written = ap (λ (l : List ℕ). wrote l rs) (sym (drop-of-length-le s {i = end} (omega arith))) }
-rest-written (openRun least most) s b end f rs e =
-    let low : end + least ≤ length s = leb-true (end + least) (length s) (and-left (leb (end + least) (length s)) (leb (length s) (end + most)) f) in
-    let high : length s ≤ end + most = leb-true (length s) (end + most) (and-right (leb (end + least) (length s)) (leb (length s) (end + most)) f) in
+rest-written (openRun least most run) s b end f rs e =
+    let size : ℕ = length s in
+    let inside = and-left (whole run (size - end) && leb (end + least) size) (leb size (end + most)) f in
+    let low : end + least ≤ size = leb-true (end + least) size (and-right (whole run (size - end)) (leb (end + least) size) inside) in
+    let high : size ≤ end + most = leb-true size (end + most) (and-right (whole run (size - end) && leb (end + least) size) (leb size (end + most)) f) in
     record {
       room = omega arith;
-      right = rw (length-drop end s, le-leb least (length s - end) (omega arith), le-leb (length s - end) most (omega arith));
+      right = rw (length-drop end s, and-left (whole run (size - end)) (leb (end + least) size) inside, le-leb least (size - end) (omega arith), le-leb (size - end) most (omega arith));
       left = rs;
-      written = refl;
+      written = ap (writeRun end (drop end s) rs) (run-read end (wrongByte run (drop end s)) rs e .0);
     }
 rest-written (words most) s b end f rs e =
     let size : ℕ = length s in
@@ -153,7 +161,7 @@ form-written f s b vs e =
 -- the values after those of the fields are as many as the rest wants
 abbrev pub Shaped : Rest → List Value → Type 0
 Shaped nothing vs = vs ≡ []
-Shaped (openRun least most) vs = vs ≡ []
+Shaped (openRun least most run) vs = vs ≡ []
 Shaped (words most) vs = (count : ℕ) × (es : List Value) × (vs ≡ natural count ∷ es) × (length es ≡ most) × Naturals es
 
 record RestRead (r : Rest) (ws : List Value) (opens : List ℕ) (t : List ℕ) (end : ℕ) : Type 0 where
@@ -189,15 +197,18 @@ rest-read nothing ws opens cs xs t end shape right w d n =
     let none : [] ≡ cs = cc in
     let size : length t ≡ end = n ∙ rw (← none) (add-zero end) in
     record { size = eq-eqb (length t) end size; read = ap values (sym shape); open-is = no-elements opens right }
-rest-read (openRun least most) ws opens cs xs t end shape right w d n =
-    let same : opens ≡ cs = cc in
-    let count : length opens ≡ length cs = ap length same in
-    let low : least ≤ length opens = leb-true least (length opens) (and-left (leb least (length opens)) (leb (length opens) most) right) in
-    let high : length opens ≤ most = leb-true (length opens) most (and-right (leb least (length opens)) (leb (length opens) most) right) in
+rest-read (openRun least most run) ws opens cs xs t end shape right w d n =
+    let k = run-written end opens ws (wrongByte run opens) cs xs w in
+    let count : length opens ≡ length cs = ap length (k .1) in
+    let inside = and-right (whole run (length opens)) (between least most (length opens)) right in
+    let low : least ≤ length opens = leb-true least (length opens) (and-left (leb least (length opens)) (leb (length opens) most) inside) in
+    let high : length opens ≤ most = leb-true (length opens) most (and-right (leb least (length opens)) (leb (length opens) most) inside) in
+    let long : length t - end ≡ length opens = omega arith in
+    let there : drop end t ≡ opens = d ∙ sym (k .1) in
     record {
-      size = rw (le-leb (end + least) (length t) (omega arith), le-leb (length t) (end + most) (omega arith));
-      read = ap values (sym shape);
-      open-is = d ∙ sym same;
+      size = rw (long, and-left (whole run (length opens)) (between least most (length opens)) right, le-leb (end + least) (length t) (omega arith), le-leb (length t) (end + most) (omega arith));
+      read = rw (there, k .0) (ap values (sym shape));
+      open-is = there;
     }
 rest-read (words most) ws opens cs xs t end shape right w d n =
     let is : ws ≡ natural (shape .0) ∷ shape .1 = shape .2 in

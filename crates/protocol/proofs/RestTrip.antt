@@ -4,18 +4,29 @@ use native.Mathlib.Omega.{arith}
 use mathlib.Core.Path.{_≡_, refl, sym, _∙_, ap}
 use mathlib.Core.Bool.{true, _&&_}
 use mathlib.Core.List.{List, [], _∷_, _++_}
+use mathlib.Core.Option.{Option, none, some}
 use borrow.Author.Tests.{lt-ltb, le-ltb, ltb-true}
 use lib.Dec.{ltb}
 use lib.ListN.{length, replicate}
 use Rattle.protocol.specs.Number.{Bytes, littleEndian}
 use Rattle.protocol.specs.Rule.{any}
-use Rattle.protocol.specs.Field.{Field, number, Value, natural, integer, real, widths}
-use Rattle.protocol.specs.Form.{word, wordsFrom, upFrom}
-use Rattle.protocol.specs.Encode.{lowFirst, holds, fieldBytes, good, stepField, wrote, writeFields, keep}
+use Rattle.protocol.specs.Field.{Field, number, Value, natural, integer, real, widths, values}
+use Rattle.protocol.specs.Form.{word, wordsFrom, upFrom, readRun}
+use Rattle.protocol.specs.Encode.{lowFirst, holds, fieldBytes, good, stepField, wrote, writeFields, writeRun, keep}
 use Rattle.protocol.proofs.Tests.{and-left}
 use Rattle.protocol.proofs.Bytes.{part, low-little, low-length, little-lt, little-low}
 use Rattle.protocol.proofs.FieldsTrip.{part-add, write-step, one-step, front-part}
 use Rattle.protocol.proofs.FieldTrip.{taken-good}
+
+-- a run that was read had no wrong byte, and has no values
+pub run-read : (at : ℕ) (wrong : Option ℕ) (vs : List Value) → readRun at wrong ≡ values vs → (wrong ≡ none) × (vs ≡ [])
+run-read at none vs e = (refl, cc)
+run-read at (some i) vs e = let z : _≡_ {A = ℕ} 0 1 = cc in absurd (omega arith)
+
+-- a run that was written had none, and is its open bytes
+pub run-written : (at : ℕ) (opens : List ℕ) (vs : List Value) (wrong : Option ℕ) (cs : List ℕ) (xs : List Value) → writeRun at opens vs wrong ≡ wrote cs xs → (wrong ≡ none) × (opens ≡ cs)
+run-written at opens vs none cs xs e = (refl, cc)
+run-written at opens vs (some i) cs xs e = let z : _≡_ {A = ℕ} 0 1 = cc in absurd (omega arith)
 
 abbrev pub entry : Field
 entry = number 2 any

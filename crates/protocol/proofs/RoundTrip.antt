@@ -133,6 +133,11 @@ form-back Form.portValue = refl
 form-back Form.inputFormat = refl
 form-back Form.virtualDisconnect = refl
 form-back Form.virtualConnect = refl
+form-back Form.startSpeedForDegrees = refl
+form-back Form.gotoAbsolutePosition = refl
+form-back Form.gotoAbsolutePositions = refl
+form-back Form.presetEncoders = refl
+form-back Form.outputFeedback = refl
 
 same-form : (f : Form) → sameForm f f ≡ true
 same-form f = rw (eq-eqb (formNumber f) (formNumber f) refl, eq-eqb (argument f) (argument f) refl)
@@ -318,6 +323,11 @@ settling (Message'.PortValue p) = (refl, refl, refl)
 settling (Message'.InputFormat p m d n) = (refl, refl, refl)
 settling (Message'.VirtualDisconnect p) = (refl, refl, refl)
 settling (Message'.VirtualConnect a b) = (refl, refl, refl)
+settling (Message'.StartSpeedForDegrees p s d l r w e u) = (refl, refl, refl)
+settling (Message'.GotoAbsolutePosition p s a v w e u) = (refl, refl, refl)
+settling (Message'.GotoAbsolutePositions p s a b v w e u) = (refl, refl, refl)
+settling (Message'.PresetEncoders p s l r) = (refl, refl, refl)
+settling Message'.OutputFeedback = (refl, refl, refl)
 
 pub read-then-written : ReadThenWritten
 unfolding encode

@@ -16,7 +16,7 @@ use Rattle.protocol.specs.Properties.{carries}
 use Rattle.protocol.specs.Field.{Field, number, highFirst, signed, float, fixed, Value, natural, integer, real, widths, values, readField, readFields}
 use Rattle.protocol.specs.Form
 use Rattle.protocol.specs.Form.{Form, layout, code}
-use Rattle.protocol.specs.Types.{Selection, always, select, MessageType, Row, selectors, payload, types, typeOf, hubProperties, hubActions, hubAlerts, hubAttachedIo, portInformation, portModeInformation, virtualPortSetup}
+use Rattle.protocol.specs.Types.{Selection, always, select, MessageType, Row, selectors, payload, types, typeOf, hubProperties, hubActions, hubAlerts, hubAttachedIo, portInformation, portModeInformation, virtualPortSetup, portOutputCommand}
 use Rattle.protocol.specs.Answer.{naturalAt}
 use Rattle.protocol.specs.Encode.{lowFirst, holds, fieldBytes, wrote, writeFields}
 use Rattle.protocol.specs.declared.Way.{Way}
@@ -31,7 +31,7 @@ Narrow zero fs = Unit {0}
 Narrow (suc k) [] = ⊥
 Narrow (suc k) (number w rule ∷ fs) = (w ≡ 1) × Narrow k fs
 Narrow (suc k) (highFirst w ∷ fs) = ⊥
-Narrow (suc k) (signed w ∷ fs) = ⊥
+Narrow (suc k) (signed w rule ∷ fs) = ⊥
 Narrow (suc k) (float ∷ fs) = ⊥
 Narrow (suc k) (fixed bytes ∷ fs) = ⊥
 
@@ -40,7 +40,7 @@ narrow-widths zero fs q = omega arith
 narrow-widths (suc k) [] q = absurd q
 narrow-widths (suc k) (number w rule ∷ fs) q = let w1 : w ≡ 1 = q .0 in omega (arith, narrow-widths k fs (q .1))
 narrow-widths (suc k) (highFirst w ∷ fs) q = absurd q
-narrow-widths (suc k) (signed w ∷ fs) q = absurd q
+narrow-widths (suc k) (signed w rule ∷ fs) q = absurd q
 narrow-widths (suc k) (float ∷ fs) q = absurd q
 narrow-widths (suc k) (fixed bytes ∷ fs) q = absurd q
 
@@ -65,7 +65,7 @@ narrow-read (suc k) (number w rule ∷ fs) q s at us rest e (suc i) h =
     let far : at + suc i ≡ at + w + i = omega (arith, q .0) in
     rw (b .joined, is, far) (narrow-read k fs (q .1) s (at + w) (b .second) rest (b .second-is) i (omega arith))
 narrow-read (suc k) (highFirst w ∷ fs) q s at us rest e i h = absurd q
-narrow-read (suc k) (signed w ∷ fs) q s at us rest e i h = absurd q
+narrow-read (suc k) (signed w rule ∷ fs) q s at us rest e i h = absurd q
 narrow-read (suc k) (float ∷ fs) q s at us rest e i h = absurd q
 narrow-read (suc k) (fixed bytes ∷ fs) q s at us rest e i h = absurd q
 
@@ -100,7 +100,7 @@ narrow-written (suc k) (number w rule ∷ fs) q place vs bs ws e (suc i) h =
     ∙ narrow-written k fs (q .1) (place + w) (r .left) (r .second) ws (r .second-is) i (omega arith)
     ∙ sym (ap (λ (l : List Value). naturalAt l (suc i)) (t .front))
 narrow-written (suc k) (highFirst w ∷ fs) q place vs bs ws e i h = absurd q
-narrow-written (suc k) (signed w ∷ fs) q place vs bs ws e i h = absurd q
+narrow-written (suc k) (signed w rule ∷ fs) q place vs bs ws e i h = absurd q
 narrow-written (suc k) (float ∷ fs) q place vs bs ws e i h = absurd q
 narrow-written (suc k) (fixed bytes ∷ fs) q place vs bs ws e i h = absurd q
 
@@ -186,6 +186,18 @@ virtual-leads : Leads 0x61 1 virtualPortSetup
 unfolding virtualPortSetup layout
 virtual-leads = (omega arith, λ sub. either-fits 0x61 1 (eqb sub 0) Form.virtualDisconnect Form.virtualConnect (refl, (refl, tt)) (refl, (refl, tt)))
 
+output-leads : Leads 0x81 3 portOutputCommand
+unfolding portOutputCommand layout
+output-leads = (
+  omega arith,
+  λ sub.
+      let f1 : Form = cond (eqb sub 0x0E) Form.gotoAbsolutePositions Form.presetEncoders in
+      let f2 : Form = cond (eqb sub 0x0D) Form.gotoAbsolutePosition f1 in
+      either-fits 0x81 3 (eqb sub 0x0C) Form.startSpeedForDegrees f2 (refl, (refl, (refl, (refl, tt))))
+      (either-fits 0x81 3 (eqb sub 0x0D) Form.gotoAbsolutePosition f1 (refl, (refl, (refl, (refl, tt))))
+      (either-fits 0x81 3 (eqb sub 0x0E) Form.gotoAbsolutePositions Form.presetEncoders (refl, (refl, (refl, (refl, tt)))) (refl, (refl, (refl, (refl, tt)))))),
+)
+
 -- of every row of a table, by its type byte and its type
 abbrev pub Every : (ℕ → MessageType → Type 0) → List Row → Type 0
 Every P [] = Unit {0}
@@ -207,11 +219,11 @@ abbrev TypeLeads : ℕ → MessageType → Type 0
 TypeLeads c t = Leads c (selectors t) t
 
 all-lead : (way : Way) → Every TypeLeads (types way)
-unfolding types hubProperties hubAttachedIo portInformation portModeInformation virtualPortSetup
+unfolding types hubProperties hubAttachedIo portInformation portModeInformation virtualPortSetup portOutputCommand
 all-lead Down =
-    (property-leads Down, (action-leads Down, (alert-leads Down, ((refl, tt), ((refl, tt), ((refl, tt), ((refl, tt), ((refl, tt), ((refl, tt), (virtual-leads, tt))))))))))
+    (property-leads Down, (action-leads Down, (alert-leads Down, ((refl, tt), ((refl, tt), ((refl, tt), ((refl, tt), ((refl, tt), ((refl, tt), (virtual-leads, (output-leads, tt)))))))))))
 all-lead Up =
-    (property-leads Up, (action-leads Up, (alert-leads Up, (attached-leads, ((refl, tt), ((refl, tt), (information-leads, (mode-leads, ((refl, tt), ((refl, tt), tt))))))))))
+    (property-leads Up, (action-leads Up, (alert-leads Up, (attached-leads, ((refl, tt), ((refl, tt), (information-leads, (mode-leads, ((refl, tt), ((refl, tt), ((refl, tt), tt)))))))))))
 
 -- every type leads to forms of its own type byte
 pub leads : (way : Way) (c : ℕ) (t : MessageType) → typeOf c (types way) ≡ some t → Leads c (selectors t) t

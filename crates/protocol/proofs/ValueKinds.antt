@@ -7,30 +7,30 @@ use mathlib.Core.List.{List, [], _∷_, _++_}
 use lib.Dec.{eqb}
 use lib.IntN.{ℤ}
 use lib.Ieee.{Float, binary32, ofBits}
-use lib.ListN.{length, getD}
+use lib.ListN.{length, getD, drop}
 use Rattle.protocol.specs.Number.{littleEndian, bigEndian, twosComplement, isFinite}
 use Rattle.protocol.specs.Field.{Field, number, highFirst, signed, float, fixed, Value, natural, integer, real, width, widths, values, sameBytes, readField, readFields}
 use Rattle.protocol.specs.Field as Field'
-use Rattle.protocol.specs.Form.{Form, Rest, nothing, openRun, words, Layout, layout, word, wordsFrom, upFrom, readRest}
+use Rattle.protocol.specs.Form.{Form, Rest, nothing, openRun, words, Layout, layout, word, wordsFrom, upFrom, wrongByte, readRest}
 use Rattle.protocol.specs.Decode.{accepted, header, decodeForm}
 use Rattle.protocol.proofs.FieldTrip.{within-yes}
 use Rattle.protocol.proofs.FieldsTrip.{both-read}
 use Rattle.protocol.proofs.FormTrip.{was-read}
-use Rattle.protocol.proofs.RestTrip.{entries}
+use Rattle.protocol.proofs.RestTrip.{entries, run-read}
 
 -- something holds of all values of the kinds of fields
 abbrev pub Each : List Field → (List Value → Type 0) → Type 0
 Each [] P = P []
 Each (number w rule ∷ fs) P = (n : ℕ) → Each fs (λ vs. P (natural n ∷ vs))
 Each (highFirst w ∷ fs) P = (n : ℕ) → Each fs (λ vs. P (natural n ∷ vs))
-Each (signed w ∷ fs) P = (z : ℤ) → Each fs (λ vs. P (integer z ∷ vs))
+Each (signed w rule ∷ fs) P = (z : ℤ) → Each fs (λ vs. P (integer z ∷ vs))
 Each (float ∷ fs) P = (x : Float) → Each fs (λ vs. P (real x ∷ vs))
 Each (fixed bytes ∷ fs) P = Each fs P
 
 -- of what follows the fields
 abbrev pub EachRest : Rest → (List Value → Type 0) → Type 0
 EachRest nothing P = P []
-EachRest (openRun least most) P = P []
+EachRest (openRun least most run) P = P []
 EachRest (words most) P = (count : ℕ) → Each (entries most) (λ vs. P (natural count ∷ vs))
 
 -- of a layout
@@ -53,9 +53,9 @@ each-field (number w rule) fs P all s at us e =
     let n : ℕ = littleEndian s at w in
     rw (within-yes (rule n) at (natural n) us e .1) (all n)
 each-field (highFirst w) fs P all s at us e = let is : us ≡ natural (bigEndian s at w) ∷ [] = cc in rw is (all (bigEndian s at w))
-each-field (signed w) fs P all s at us e =
+each-field (signed w rule) fs P all s at us e =
     let z : ℤ = twosComplement w (littleEndian s at w) in
-    let is : us ≡ integer z ∷ [] = cc in rw is (all z)
+    rw (within-yes (rule z) at (integer z) us e .1) (all z)
 each-field float fs P all s at us e =
     let x : Float = ofBits binary32 (littleEndian s at 4) in
     rw (within-yes (isFinite x) at (real x) us e .1) (all x)
@@ -77,7 +77,7 @@ each-word (suc n) P all s at count i = each-word n (λ us. P (natural (word s at
 -- of what follows the fields
 each-rest : (r : Rest) (P : List Value → Type 0) → EachRest r P → (s : List ℕ) (at : ℕ) (vs : List Value) → readRest s at r ≡ values vs → P vs
 each-rest nothing P all s at vs e = let none : vs ≡ [] = cc in rw none all
-each-rest (openRun least most) P all s at vs e = let none : vs ≡ [] = cc in rw none all
+each-rest (openRun least most run) P all s at vs e = rw (run-read at (wrongByte run (drop at s)) vs e .1) all
 each-rest (words most) P all s at vs e =
     let count : ℕ = (length s - at) / 2 in
     let is : vs ≡ natural count ∷ wordsFrom s at count (upFrom 0 most) = cc in

@@ -48,6 +48,11 @@ formOf (Message'.PortValue p) = Form.portValue
 formOf (Message'.InputFormat p m d n) = Form.inputFormat
 formOf (Message'.VirtualDisconnect p) = Form.virtualDisconnect
 formOf (Message'.VirtualConnect a b) = Form.virtualConnect
+formOf (Message'.StartSpeedForDegrees p s d l r w e u) = Form.startSpeedForDegrees
+formOf (Message'.GotoAbsolutePosition p s a v w e u) = Form.gotoAbsolutePosition
+formOf (Message'.GotoAbsolutePositions p s a b v w e u) = Form.gotoAbsolutePositions
+formOf (Message'.PresetEncoders p s l r) = Form.presetEncoders
+formOf Message'.OutputFeedback = Form.outputFeedback
 
 abbrev combined : Combinations → List Value
 combined c =
@@ -97,6 +102,11 @@ valuesOf (Message'.PortValue p) = natural p ∷ []
 valuesOf (Message'.InputFormat p m d n) = natural p ∷ natural m ∷ natural d ∷ natural n ∷ []
 valuesOf (Message'.VirtualDisconnect p) = natural 0 ∷ natural p ∷ []
 valuesOf (Message'.VirtualConnect a b) = natural 1 ∷ natural a ∷ natural b ∷ []
+valuesOf (Message'.StartSpeedForDegrees p s d l r w e u) = natural p ∷ natural s ∷ natural 0x0C ∷ integer d ∷ integer l ∷ integer r ∷ natural w ∷ natural e ∷ natural u ∷ []
+valuesOf (Message'.GotoAbsolutePosition p s a v w e u) = natural p ∷ natural s ∷ natural 0x0D ∷ integer a ∷ natural v ∷ natural w ∷ natural e ∷ natural u ∷ []
+valuesOf (Message'.GotoAbsolutePositions p s a b v w e u) = natural p ∷ natural s ∷ natural 0x0E ∷ integer a ∷ integer b ∷ natural v ∷ natural w ∷ natural e ∷ natural u ∷ []
+valuesOf (Message'.PresetEncoders p s l r) = natural p ∷ natural s ∷ natural 0x14 ∷ integer l ∷ integer r ∷ []
+valuesOf Message'.OutputFeedback = []
 
 abbrev pub answerOf : Reading → Answer
 answerOf (Accepted m) = accepted (formOf m) (valuesOf m)
@@ -174,6 +184,11 @@ messageOf Form.portValue vs = Message'.PortValue (naturalAt vs 0)
 messageOf Form.inputFormat vs = Message'.InputFormat (naturalAt vs 0) (naturalAt vs 1) (naturalAt vs 2) (naturalAt vs 3)
 messageOf Form.virtualDisconnect vs = Message'.VirtualDisconnect (naturalAt vs 1)
 messageOf Form.virtualConnect vs = Message'.VirtualConnect (naturalAt vs 1) (naturalAt vs 2)
+messageOf Form.startSpeedForDegrees vs = Message'.StartSpeedForDegrees (naturalAt vs 0) (naturalAt vs 1) (integerAt vs 3) (integerAt vs 4) (integerAt vs 5) (naturalAt vs 6) (naturalAt vs 7) (naturalAt vs 8)
+messageOf Form.gotoAbsolutePosition vs = Message'.GotoAbsolutePosition (naturalAt vs 0) (naturalAt vs 1) (integerAt vs 3) (naturalAt vs 4) (naturalAt vs 5) (naturalAt vs 6) (naturalAt vs 7)
+messageOf Form.gotoAbsolutePositions vs = Message'.GotoAbsolutePositions (naturalAt vs 0) (naturalAt vs 1) (integerAt vs 3) (integerAt vs 4) (naturalAt vs 5) (naturalAt vs 6) (naturalAt vs 7) (naturalAt vs 8)
+messageOf Form.presetEncoders vs = Message'.PresetEncoders (naturalAt vs 0) (naturalAt vs 1) (integerAt vs 3) (integerAt vs 4)
+messageOf Form.outputFeedback vs = Message'.OutputFeedback
 
 abbrev pub messageOfAnswer : Answer → Message
 messageOfAnswer (accepted f vs) = messageOf f vs

@@ -12,7 +12,7 @@ use lib.ListN.{length, take, drop, replicate}
 use Rattle.protocol.specs.Number.{isFinite}
 use Rattle.protocol.specs.Rule.{any, between}
 use Rattle.protocol.specs.Field.{Field, number, highFirst, signed, float, fixed, Value, natural, integer, real, width}
-use Rattle.protocol.specs.Form.{Form, code, sameForm, Rest, nothing, openRun, words, Layout, layout}
+use Rattle.protocol.specs.Form.{Form, code, sameForm, Rest, nothing, openRun, words, Layout, layout, whole, wrongByte}
 use Rattle.protocol.specs.Types.{Selection, always, select, MessageType, types, typeOf, readOnly}
 use Rattle.protocol.specs.Decode.{header, fieldsEnd, smallestSize, selectorsSize}
 use Rattle.protocol.specs.Answer.{formOf, valuesOf, naturalAt}
@@ -51,9 +51,9 @@ holds (number w rule) (real x) = false
 holds (highFirst w) (natural n) = ltb n (256 ^ w)
 holds (highFirst w) (integer z) = false
 holds (highFirst w) (real x) = false
-holds (signed w) (natural n) = false
-holds (signed w) (integer z) = inRange w z
-holds (signed w) (real x) = false
+holds (signed w rule) (natural n) = false
+holds (signed w rule) (integer z) = inRange w z && rule z
+holds (signed w rule) (real x) = false
 holds float (natural n) = false
 holds float (integer z) = false
 holds float (real x) = isFinite x && Ieee.fits binary32 x
@@ -67,9 +67,9 @@ fieldBytes (number w rule) (real x) = []
 fieldBytes (highFirst w) (natural n) = highBytes w n
 fieldBytes (highFirst w) (integer z) = []
 fieldBytes (highFirst w) (real x) = []
-fieldBytes (signed w) (natural n) = []
-fieldBytes (signed w) (integer z) = lowFirst w (ofInteger w z)
-fieldBytes (signed w) (real x) = []
+fieldBytes (signed w rule) (natural n) = []
+fieldBytes (signed w rule) (integer z) = lowFirst w (ofInteger w z)
+fieldBytes (signed w rule) (real x) = []
 fieldBytes float (natural n) = []
 fieldBytes float (integer z) = []
 fieldBytes float (real x) = lowFirst 4 (toBits binary32 x)
@@ -87,7 +87,7 @@ taken f (v ∷ vs) = cond (holds f v) (good (fieldBytes f v) vs) bad
 abbrev pub stepField : Field → List Value → FieldStep
 stepField (number w rule) vs = taken (number w rule) vs
 stepField (highFirst w) vs = taken (highFirst w) vs
-stepField (signed w) vs = taken (signed w) vs
+stepField (signed w rule) vs = taken (signed w rule) vs
 stepField float vs = taken float vs
 stepField (fixed bytes) vs = good bytes vs
 
@@ -104,17 +104,22 @@ abbrev pub writeFields : ℕ → List Field → List Value → Written
 writeFields at [] vs = wrote [] vs
 writeFields at (f ∷ fs) vs = elim (stepField f vs) [ bad ↦ outside at | good bs ws ↦ before bs (writeFields (at + width f) fs ws) ]
 
--- whether what follows the fields is right, by the number of open bytes: within their range, none where there are none; of
--- words a count from one to the most
+-- whether what follows the fields is right, by the number of open bytes: whole items within their range, none where there are
+-- none; of words a count from one to the most
 abbrev pub restFits : Rest → List Value → ℕ → Bool
 restFits nothing vs count = eqb count 0
-restFits (openRun least most) vs count = between least most count
+restFits (openRun least most run) vs count = whole run count && between least most count
 restFits (words most) vs count = between 1 most (naturalAt vs 0) && eqb count 0
+
+-- the bytes of a run as they are, or the place of a wrong byte, where it starts at a place
+abbrev pub writeRun : ℕ → List ℕ → List Value → Option ℕ → Written
+writeRun at opens vs none = wrote opens vs
+writeRun at opens vs (some i) = outside (at + i)
 
 -- what follows the fields, from a place on: of words as many as the first value says; those past the count are not among the fields
 abbrev pub writeRest : ℕ → Rest → List Value → List ℕ → Written
 writeRest at nothing vs opens = wrote [] vs
-writeRest at (openRun least most) vs opens = wrote opens vs
+writeRest at (openRun least most run) vs opens = writeRun at opens vs (wrongByte run opens)
 writeRest at (words most) vs opens = writeFields at (replicate (naturalAt vs 0) (number 2 any)) (drop 1 vs)
 
 abbrev pub thenRest : ℕ → Rest → List ℕ → Written → Written
@@ -133,7 +138,7 @@ closed f (wrote bs vs) = encoded (framed (code f) bs)
 abbrev pub afterField : Field → List Value → List Value
 afterField (number w rule) vs = drop 1 vs
 afterField (highFirst w) vs = drop 1 vs
-afterField (signed w) vs = drop 1 vs
+afterField (signed w rule) vs = drop 1 vs
 afterField float vs = drop 1 vs
 afterField (fixed bytes) vs = vs
 
@@ -145,7 +150,7 @@ afterFields (f ∷ fs) vs = afterFields fs (afterField f vs)
 abbrev pub frontValue : Field → List Value → List Value
 frontValue (number w rule) vs = take 1 vs
 frontValue (highFirst w) vs = take 1 vs
-frontValue (signed w) vs = take 1 vs
+frontValue (signed w rule) vs = take 1 vs
 frontValue float vs = take 1 vs
 frontValue (fixed bytes) vs = []
 
@@ -188,7 +193,7 @@ keep count i (v ∷ vs) = cond (ltb i count) v (natural 0) ∷ keep count (suc i
 
 abbrev pub settleRest : Rest → List Value → List Value
 settleRest nothing vs = vs
-settleRest (openRun least most) vs = vs
+settleRest (openRun least most run) vs = vs
 settleRest (words most) [] = []
 settleRest (words most) (v ∷ vs) = v ∷ keep (naturalAt (v ∷ vs) 0) 0 vs
 

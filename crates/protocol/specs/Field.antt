@@ -7,15 +7,15 @@ use lib.IntN.{ℤ}
 use lib.Ieee.{Float, binary32, ofBits}
 use lib.ListN.{length, getD}
 use Rattle.protocol.specs.Number.{littleEndian, bigEndian, twosComplement, isFinite}
-use Rattle.protocol.specs.Rule.{Rule}
+use Rattle.protocol.specs.Rule.{Rule, SignedRule}
 
 pub data Field : Type 0 where
   -- so many bytes, least significant first, within the list
   number : ℕ → Rule → Field
   -- so many bytes, most significant first, any value
   highFirst : ℕ → Field
-  -- so many bytes in two's complement, least significant first, any value
-  signed : ℕ → Field
+  -- so many bytes in two's complement, least significant first, within the list
+  signed : ℕ → SignedRule → Field
   -- an f32, finite
   float : Field
   -- these very bytes; no value
@@ -30,7 +30,7 @@ pub data Value : Type 0 where
 abbrev pub width : Field → ℕ
 width (number w r) = w
 width (highFirst w) = w
-width (signed w) = w
+width (signed w rule) = w
 width float = 4
 width (fixed bytes) = length bytes
 
@@ -65,7 +65,9 @@ sameBytes s at (b ∷ bs) = cond (eqb (getD s at 0) b) (sameBytes s (at + 1) bs)
 abbrev pub readField : List ℕ → ℕ → Field → Fields
 readField s at (number w rule) = within (rule (littleEndian s at w)) at (natural (littleEndian s at w))
 readField s at (highFirst w) = values (natural (bigEndian s at w) ∷ [])
-readField s at (signed w) = values (integer (twosComplement w (littleEndian s at w)) ∷ [])
+readField s at (signed w rule) =
+    let z = twosComplement w (littleEndian s at w) in
+    within (rule z) at (integer z)
 readField s at float = within (isFinite (ofBits binary32 (littleEndian s at 4))) at (real (ofBits binary32 (littleEndian s at 4)))
 readField s at (fixed bytes) = sameBytes s at bytes
 

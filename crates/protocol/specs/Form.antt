@@ -1,12 +1,13 @@
 -- The forms of document 01's table, as data: the fields after the header, left to right, selectors among them, and what follows them.
 use Prim.Native.Nat.{ℕ, zero, suc, _+_, _*_, _-_, _/_, _%_}
-use mathlib.Core.Bool.{Bool, cond, _&&_}
+use mathlib.Core.Bool.{Bool, true, cond, _&&_}
 use mathlib.Core.List.{List, [], _∷_}
+use mathlib.Core.Option.{Option, none, some}
 use lib.Dec.{leb, ltb, eqb}
-use lib.ListN.{length, drop}
+use lib.ListN.{length, getD, drop}
 use Rattle.protocol.specs.Number.{littleEndian}
-use Rattle.protocol.specs.Rule.{Rule, any, upTo, between, oneOf, either}
-use Rattle.protocol.specs.Field.{Field, number, highFirst, signed, float, fixed, Value, natural, Fields, values}
+use Rattle.protocol.specs.Rule.{Rule, any, upTo, between, oneOf, either, SignedRule, anySigned, fromMinus}
+use Rattle.protocol.specs.Field.{Field, number, highFirst, signed, float, fixed, Value, natural, Fields, outside, values}
 use Rattle.protocol.specs.Properties.{longest, greatest}
 
 -- The forms. Where a selector decides a bound, it is an argument.
@@ -44,6 +45,11 @@ pub data Form : Type 0 where
   inputFormat : Form
   virtualDisconnect : Form
   virtualConnect : Form
+  startSpeedForDegrees : Form
+  gotoAbsolutePosition : Form
+  gotoAbsolutePositions : Form
+  presetEncoders : Form
+  outputFeedback : Form
 
 -- the type byte of a form
 abbrev pub code : Form → ℕ
@@ -80,6 +86,11 @@ code portValue = 0x45
 code inputFormat = 0x47
 code virtualDisconnect = 0x61
 code virtualConnect = 0x61
+code startSpeedForDegrees = 0x81
+code gotoAbsolutePosition = 0x81
+code gotoAbsolutePositions = 0x81
+code presetEncoders = 0x81
+code outputFeedback = 0x82
 
 -- the forms numbered from 1, and the selector that one has as its argument
 abbrev pub formNumber : Form → ℕ
@@ -116,6 +127,11 @@ formNumber portValue = 30
 formNumber inputFormat = 31
 formNumber virtualDisconnect = 32
 formNumber virtualConnect = 33
+formNumber startSpeedForDegrees = 34
+formNumber gotoAbsolutePosition = 35
+formNumber gotoAbsolutePositions = 36
+formNumber presetEncoders = 37
+formNumber outputFeedback = 38
 
 abbrev pub argument : Form → ℕ
 argument propertyCommand = 0
@@ -151,6 +167,11 @@ argument portValue = 0
 argument inputFormat = 0
 argument virtualDisconnect = 0
 argument virtualConnect = 0
+argument startSpeedForDegrees = 0
+argument gotoAbsolutePosition = 0
+argument gotoAbsolutePositions = 0
+argument presetEncoders = 0
+argument outputFeedback = 0
 
 -- the forms by their numbers and argument; no form has number 0
 abbrev pub formsBy : ℕ → List Form
@@ -189,16 +210,27 @@ formsBy a =
     ∷ inputFormat
     ∷ virtualDisconnect
     ∷ virtualConnect
+    ∷ startSpeedForDegrees
+    ∷ gotoAbsolutePosition
+    ∷ gotoAbsolutePositions
+    ∷ presetEncoders
+    ∷ outputFeedback
     ∷ []
 
 abbrev pub sameForm : Form → Form → Bool
 sameForm f g = eqb (formNumber f) (formNumber g) && eqb (argument f) (argument g)
 
+-- what an open run is made of
+pub data Run : Type 0 where
+  anyBytes : Run
+  -- items of so many bytes each, and what a byte must be, by the run and its index there
+  items : ℕ → (List ℕ → ℕ → Bool) → Run
+
 -- what follows the fields
 pub data Rest : Type 0 where
   nothing : Rest
   -- open bytes, from the least to the most
-  openRun : ℕ → ℕ → Rest
+  openRun : ℕ → ℕ → Run → Rest
   -- one u16 or more, up to the most
   words : ℕ → Rest
 
@@ -245,6 +277,37 @@ alertStatus n = oneOf (0x00 ∷ 0xFF ∷ []) n
 unfoldable pub longestModeText : ℕ → ℕ
 longestModeText information = cond (eqb information 0) 11 5
 
+-- 81: the two halves of the start byte, Startup and Completion Information, are each 0 or 1
+unfoldable pub startByte : Rule
+startByte n = upTo 1 (n / 16) && upTo 1 (n % 16)
+
+-- 0C: the sign of a speed is its direction
+unfoldable pub direction : SignedRule
+direction z = fromMinus 100 100 z
+
+-- 0C: signed in the bytes, and never negative
+unfoldable pub degrees : SignedRule
+degrees z = fromMinus 0 10000000 z
+
+-- 0D, 0E
+abbrev speed : Field
+speed = byte (between 1 100)
+
+-- 0C, 0D, 0E: float, hold or brake
+unfoldable pub endState : Rule
+endState n = oneOf (0 ∷ 126 ∷ 127 ∷ []) n
+
+-- power, end state, profile
+abbrev ending : List Field
+ending = byte (upTo 100) ∷ byte endState ∷ byte (upTo 3) ∷ []
+
+abbrev position : Field
+position = signed 4 anySigned
+
+-- 82: a port and its feedback, the five bits of document 002
+unfoldable pub feedback : List ℕ → ℕ → Bool
+feedback run i = cond (eqb (i % 2) 0) true (upTo 0x1F (getD run i 0))
+
 -- LPF2-Boot
 abbrev pub bootString : List ℕ
 bootString = 0x4C ∷ 0x50 ∷ 0x46 ∷ 0x32 ∷ 0x2D ∷ 0x42 ∷ 0x6F ∷ 0x6F ∷ 0x74 ∷ []
@@ -265,17 +328,17 @@ inputSetup = port ∷ mode ∷ number 4 any ∷ byte (upTo lastNotify) ∷ []
 
 unfoldable pub layout : Form → Layout
 layout propertyCommand = only (selector ∷ selector ∷ [])
-layout (propertyText property) = endingIn (selector ∷ selector ∷ []) (openRun 1 (longest property))
+layout (propertyText property) = endingIn (selector ∷ selector ∷ []) (openRun 1 (longest property) anyBytes)
 layout (propertyByte property) = only (selector ∷ selector ∷ byte (upTo (greatest property)) ∷ [])
-layout propertyRssi = only (selector ∷ selector ∷ signed 1 ∷ [])
-layout propertyVersion = only (selector ∷ selector ∷ signed 4 ∷ [])
+layout propertyRssi = only (selector ∷ selector ∷ signed 1 anySigned ∷ [])
+layout propertyVersion = only (selector ∷ selector ∷ signed 4 anySigned ∷ [])
 layout propertyProtocol = only (selector ∷ selector ∷ number 2 any ∷ [])
 layout propertyAddress = only (selector ∷ selector ∷ highFirst 6 ∷ [])
 layout hubAction = only (selector ∷ [])
 layout alertCommand = only (selector ∷ selector ∷ [])
 layout alertUpdate = only (selector ∷ selector ∷ byte alertStatus ∷ [])
 layout detached = only (port ∷ selector ∷ [])
-layout attached = only (port ∷ selector ∷ number 2 any ∷ signed 4 ∷ signed 4 ∷ [])
+layout attached = only (port ∷ selector ∷ number 2 any ∷ signed 4 anySigned ∷ signed 4 anySigned ∷ [])
 layout attachedVirtual = only (port ∷ selector ∷ number 2 any ∷ port ∷ port ∷ [])
 layout genericError = only (byte any ∷ byte (between 1 8) ∷ [])
 layout goIntoBootMode = only (fixed bootString ∷ [])
@@ -287,27 +350,37 @@ layout modeInformationRequest = only (port ∷ mode ∷ byte informationType ∷
 layout inputFormatSetup = only inputSetup
 layout portModes = only (port ∷ selector ∷ byte (upTo 15) ∷ byte any ∷ number 2 any ∷ number 2 any ∷ [])
 layout portCombinations = endingIn (port ∷ selector ∷ []) (words 8)
-layout (modeText information) = endingIn (port ∷ mode ∷ selector ∷ []) (openRun 1 (longestModeText information))
+layout (modeText information) = endingIn (port ∷ mode ∷ selector ∷ []) (openRun 1 (longestModeText information) anyBytes)
 layout modeRange = only (port ∷ mode ∷ selector ∷ float ∷ float ∷ [])
 layout modeMapping = only (port ∷ mode ∷ selector ∷ number 2 any ∷ [])
 layout modeBias = only (port ∷ mode ∷ selector ∷ byte (upTo 100) ∷ [])
 layout modeCapabilities = only (port ∷ mode ∷ selector ∷ highFirst 6 ∷ [])
 layout valueFormat = only (port ∷ mode ∷ selector ∷ byte (between 1 mostDatasets) ∷ byte (upTo lastKind) ∷ byte any ∷ byte any ∷ [])
-layout portValue = endingIn (port ∷ []) (openRun 1 123)
+layout portValue = endingIn (port ∷ []) (openRun 1 123 anyBytes)
 layout inputFormat = only inputSetup
 layout virtualDisconnect = only (selector ∷ port ∷ [])
 layout virtualConnect = only (selector ∷ port ∷ port ∷ [])
+layout startSpeedForDegrees = only (port ∷ byte startByte ∷ selector ∷ signed 4 degrees ∷ signed 1 direction ∷ signed 1 direction ∷ ending)
+layout gotoAbsolutePosition = only (port ∷ byte startByte ∷ selector ∷ position ∷ speed ∷ ending)
+layout gotoAbsolutePositions = only (port ∷ byte startByte ∷ selector ∷ position ∷ position ∷ speed ∷ ending)
+layout presetEncoders = only (port ∷ byte startByte ∷ selector ∷ position ∷ position ∷ [])
+layout outputFeedback = endingIn [] (openRun 2 124 (items 2 feedback))
 
 -- the least bytes that follow the fields: of words one
 abbrev pub leastRest : Rest → ℕ
 leastRest nothing = 0
-leastRest (openRun least most) = least
+leastRest (openRun least most run) = least
 leastRest (words most) = 2
+
+-- whether so many bytes are whole items of a run
+abbrev pub whole : Run → ℕ → Bool
+whole anyBytes count = true
+whole (items step test) count = eqb (count % step) 0
 
 -- whether a whole size fits, where the fields end at a place
 abbrev pub fits : Rest → ℕ → ℕ → Bool
 fits nothing end size = eqb size end
-fits (openRun least most) end size = leb (end + least) size && leb size (end + most)
+fits (openRun least most run) end size = whole run (size - end) && leb (end + least) size && leb size (end + most)
 fits (words most) end size = leb (end + leastRest (words most)) size && leb size (end + 2 * most) && eqb ((size - end) % 2) 0
 
 -- the u16 at index i of those that start at a place, 0 from the count on
@@ -322,10 +395,25 @@ abbrev pub upFrom : ℕ → ℕ → List ℕ
 upFrom i zero = []
 upFrom i (suc n) = i ∷ upFrom (suc i) n
 
+-- the index of the first byte of a run that is not as it must be, none where all are: among so many from an index on
+abbrev pub wrongFrom : (List ℕ → ℕ → Bool) → List ℕ → ℕ → ℕ → Option ℕ
+wrongFrom test run i zero = none
+wrongFrom test run i (suc n) = cond (test run i) (wrongFrom test run (suc i) n) (some i)
+
+-- and among all
+abbrev pub wrongByte : Run → List ℕ → Option ℕ
+wrongByte anyBytes run = none
+wrongByte (items step test) run = wrongFrom test run 0 (length run)
+
+-- a run has no values, but the place of a wrong byte, where it starts at a place
+abbrev pub readRun : ℕ → Option ℕ → Fields
+readRun at none = values []
+readRun at (some i) = outside (at + i)
+
 -- the values of what follows the fields, which end at a place: of words their count and each up to the most
 abbrev pub readRest : List ℕ → ℕ → Rest → Fields
 readRest s at nothing = values []
-readRest s at (openRun least most) = values []
+readRest s at (openRun least most run) = readRun at (wrongByte run (drop at s))
 readRest s at (words most) =
     let count = (length s - at) / 2 in
     values (natural count ∷ wordsFrom s at count (upFrom 0 most))
@@ -333,5 +421,5 @@ readRest s at (words most) =
 -- the open bytes, where the fields end at a place
 abbrev pub openBytes : List ℕ → ℕ → Rest → List ℕ
 openBytes s at nothing = []
-openBytes s at (openRun least most) = drop at s
+openBytes s at (openRun least most run) = drop at s
 openBytes s at (words most) = []

@@ -88,6 +88,14 @@ portModeInformation =
 unfoldable pub virtualPortSetup : MessageType
 virtualPortSetup = select 0 (oneOf (0 ∷ 1 ∷ [])) λ sub. always (cond (eqb sub 0) Form.virtualDisconnect Form.virtualConnect)
 
+-- 81: port, start byte, [sub 5]
+unfoldable pub portOutputCommand : MessageType
+portOutputCommand =
+    select 2 (oneOf (0x0C ∷ 0x0D ∷ 0x0E ∷ 0x14 ∷ [])) λ sub.
+    always
+    (cond (eqb sub 0x0C) Form.startSpeedForDegrees
+    (cond (eqb sub 0x0D) Form.gotoAbsolutePosition (cond (eqb sub 0x0E) Form.gotoAbsolutePositions Form.presetEncoders)))
+
 -- a type byte and its type
 pub record Row : Type 0 where
   pub code : ℕ
@@ -109,6 +117,7 @@ types Down =
     ∷ row 0x22 (plain Form.modeInformationRequest)
     ∷ row 0x41 (plain Form.inputFormatSetup)
     ∷ row 0x61 virtualPortSetup
+    ∷ row 0x81 portOutputCommand
     ∷ []
 types Up =
     row 0x01 (hubProperties Up)
@@ -121,6 +130,7 @@ types Up =
     ∷ row 0x44 portModeInformation
     ∷ row 0x45 (plain Form.portValue)
     ∷ row 0x47 (plain Form.inputFormat)
+    ∷ row 0x82 (plain Form.outputFeedback)
     ∷ []
 
 -- the types of memory lock, which are read and no longer written: 11, 12 and 13

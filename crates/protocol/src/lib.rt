@@ -1,7 +1,7 @@
 // The messages of LEGO Wireless Protocol 3.0 as values. Definitions and laws only: no function.
 //
-// Names follow document 002. Open bytes (names, symbols, texts, values) are not in a message: they
-// stay where they are, in the caller's own slice.
+// Names follow document 002. Open bytes (names, symbols, texts, values, feedback) are not in a
+// message: they stay where they are, in the caller's own slice.
 
 // Where a message goes: down to the hub, or up from it.
 pub enum Way {
@@ -203,6 +203,47 @@ pub enum Message {
         port_a: u8,
         port_b: u8,
     },
+    // 0x81, sub command 0x0C. `start` is the byte of Startup and Completion Information.
+    StartSpeedForDegrees {
+        port: u8,
+        start: u8,
+        degrees: i32,
+        speed_left: i8,
+        speed_right: i8,
+        power: u8,
+        end_state: u8,
+        profile: u8,
+    },
+    // 0x81, sub command 0x0D
+    GotoAbsolutePosition {
+        port: u8,
+        start: u8,
+        position: i32,
+        speed: u8,
+        power: u8,
+        end_state: u8,
+        profile: u8,
+    },
+    // 0x81, sub command 0x0E
+    GotoAbsolutePositions {
+        port: u8,
+        start: u8,
+        position_1: i32,
+        position_2: i32,
+        speed: u8,
+        power: u8,
+        end_state: u8,
+        profile: u8,
+    },
+    // 0x81, sub command 0x14
+    PresetEncoders {
+        port: u8,
+        start: u8,
+        left: i32,
+        right: i32,
+    },
+    // 0x82; the pairs of port and feedback are open bytes
+    OutputFeedback,
 }
 
 // What reading gives: the message, or the number and place of the refusal.
