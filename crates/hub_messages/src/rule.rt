@@ -2,6 +2,7 @@
 ghost use mathlib.Core.Path.{_≡_};
 ghost use Rattle.protocol.specs.Form as Form;
 ghost use Rattle.protocol.specs.Rule as Rule;
+ghost use Rattle.hub_messages.specs.Feedback.{wrongFeedback};
 
 pub fn between(least: u8, n: u8, most: u8) -> bool
     ensures { λ r. ⌜ r ≡ Rule.between least most n ⌝ }
@@ -36,4 +37,62 @@ pub fn is_alert_status(status: u8) -> bool
         return true;
     }
     status == 0xFF
+}
+
+// 81: each half of the start byte is 0 or 1.
+pub fn is_start_byte(start: u8) -> bool
+    ensures { λ r. ⌜ r ≡ Form.startByte start ⌝ }
+{
+    if 1 < start / 16 {
+        return false;
+    }
+    start % 16 <= 1
+}
+
+// 0C: a speed with its direction, -100 to 100.
+pub fn is_direction(speed: i8) -> bool
+    ensures { λ r. ⌜ r ≡ Form.direction speed ⌝ }
+{
+    if speed < -100 {
+        return false;
+    }
+    speed <= 100
+}
+
+// 0C: 0 to 10,000,000 degrees.
+pub fn is_degrees(degrees: i32) -> bool
+    ensures { λ r. ⌜ r ≡ Form.degrees degrees ⌝ }
+{
+    if degrees < 0 {
+        return false;
+    }
+    degrees <= 10000000
+}
+
+// 0C, 0D, 0E: float, hold or brake.
+pub fn is_end_state(state: u8) -> bool
+    ensures { λ r. ⌜ r ≡ Form.endState state ⌝ }
+{
+    if state == 0 {
+        return true;
+    }
+    if state == 126 {
+        return true;
+    }
+    state == 127
+}
+
+// 82: the index of the first feedback over 31 among pairs of port and feedback; their number of bytes
+// where there is none.
+pub fn wrong_feedback(pairs: &[u8]) -> usize
+    ensures { λ r. ⌜ r ≡ wrongFeedback (now (pairs .entry)) ⌝ }
+{
+    let mut i = 1;
+    while i < pairs.len() {
+        if 31 < pairs[i] {
+            return i;
+        }
+        i += 2;
+    }
+    pairs.len()
 }

@@ -14,6 +14,7 @@ pub mod Sizes
 pub mod Floats
 pub mod Selection
 pub mod Signed
+pub mod SignedRule
 pub mod Tests
 pub mod FixedString
 pub mod Table

@@ -308,6 +308,9 @@ position = signed 4 anySigned
 unfoldable pub feedback : List ℕ → ℕ → Bool
 feedback run i = cond (eqb (i % 2) 0) true (upTo 0x1F (getD run i 0))
 
+abbrev pub feedbackPairs : Run
+feedbackPairs = items 2 feedback
+
 -- LPF2-Boot
 abbrev pub bootString : List ℕ
 bootString = 0x4C ∷ 0x50 ∷ 0x46 ∷ 0x32 ∷ 0x2D ∷ 0x42 ∷ 0x6F ∷ 0x6F ∷ 0x74 ∷ []
@@ -364,7 +367,7 @@ layout startSpeedForDegrees = only (port ∷ byte startByte ∷ selector ∷ sig
 layout gotoAbsolutePosition = only (port ∷ byte startByte ∷ selector ∷ position ∷ speed ∷ ending)
 layout gotoAbsolutePositions = only (port ∷ byte startByte ∷ selector ∷ position ∷ position ∷ speed ∷ ending)
 layout presetEncoders = only (port ∷ byte startByte ∷ selector ∷ position ∷ position ∷ [])
-layout outputFeedback = endingIn [] (openRun 2 124 (items 2 feedback))
+layout outputFeedback = endingIn [] (openRun 2 124 feedbackPairs)
 
 -- the least bytes that follow the fields: of words one
 abbrev pub leastRest : Rest → ℕ
