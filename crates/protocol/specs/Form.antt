@@ -298,7 +298,7 @@ unfoldable pub endState : Rule
 endState n = oneOf (0 ∷ 126 ∷ 127 ∷ []) n
 
 -- power, end state, profile
-abbrev ending : List Field
+abbrev pub ending : List Field
 ending = byte (upTo 100) ∷ byte endState ∷ byte (upTo 3) ∷ []
 
 abbrev position : Field
