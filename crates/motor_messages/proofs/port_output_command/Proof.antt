@@ -1,66 +1,72 @@
+use Prim.Native.Nat.{_<_}
+use mathlib.Core.Path.{sym, _∙_}
+use borrow.Author.Tests.{le-ltb, ne-eqb}
+use lib.ListN.{length}
+use Rattle.protocol.proofs.Selection.{too-short}
+use Rattle.protocol.specs.Decode.{decodeType}
+use Rattle.protocol.specs.Types.{portOutputCommand}
 use borrow.Author.Needs.{needs}
 use Rattle.motor_messages.proofs.port_output_command.Statement.{statement}
 use Rattle.motor_messages.proofs.port_output_command.Tie as tie
-use Rattle.motor_messages.proofs.port_output_command.Reads as reads
-use Rattle.motor_messages.proofs.port_output_command.Lts as lts
-use Rattle.hub_messages.proofs.refusal.outside.Reads as outside-reads
-use Rattle.hub_messages.proofs.refusal.wrong_size.Reads as wrong-size-reads
-use Rattle.motor_messages.proofs.goto_absolute_position.Reads as goto-absolute-position-reads
-use Rattle.motor_messages.proofs.goto_absolute_positions.Reads as goto-absolute-positions-reads
-use Rattle.motor_messages.proofs.preset_encoders.Reads as preset-encoders-reads
-use Rattle.motor_messages.proofs.start_speed_for_degrees.Reads as start-speed-for-degrees-reads
 
--- src/lib.rt:29:9
 wrong-size-requires : tie.Need-wrong-size-requires
 wrong-size-requires c κs = search needs
 
--- src/lib.rt:29:9
 returns : tie.Need-returns
-returns c = ?
+unfolding portOutputCommand
+returns c =
+    let c1 = c .before .before .before in
+    let s = c1 .args .s .now in
+    let short : length s < 6 = c .before .if1 .taken in
+    c .wrong-size .ensures ∙ sym (too-short portOutputCommand s short)
 
--- src/lib.rt:31:15
 shared-slice-read-sub : tie.Need-shared-slice-read-sub
 shared-slice-read-sub c = search needs
 
--- src/lib.rt:33:17
 start-speed-for-degrees-requires : tie.Need-start-speed-for-degrees-requires
 start-speed-for-degrees-requires c κs = search needs
 
--- src/lib.rt:34:17
 goto-absolute-position-requires : tie.Need-goto-absolute-position-requires
 goto-absolute-position-requires c κs = search needs
 
--- src/lib.rt:35:17
 goto-absolute-positions-requires : tie.Need-goto-absolute-positions-requires
 goto-absolute-positions-requires c κs = search needs
 
--- src/lib.rt:36:17
 preset-encoders-requires : tie.Need-preset-encoders-requires
 preset-encoders-requires c κs = search needs
 
--- src/lib.rt:37:14
 outside-requires : tie.Need-outside-requires
 outside-requires c κs = search needs
 
--- src/lib.rt:25:1
 returns-2 : tie.Need-returns-2
-returns-2 c = ?
+unfolding portOutputCommand decodeType
+returns-2 c =
+    let c1 = c .before .before .before in
+    simp (c .start-speed-for-degrees .ensures, le-ltb _ _ (c1 .if1 .left), c .before .match .keys1)
 
--- src/lib.rt:25:1
 returns-3 : tie.Need-returns-3
-returns-3 c = ?
+unfolding portOutputCommand decodeType
+returns-3 c =
+    let c1 = c .before .before .before in
+    simp (c .goto-absolute-position .ensures, le-ltb _ _ (c1 .if1 .left), c .before .match .keys2)
 
--- src/lib.rt:25:1
 returns-4 : tie.Need-returns-4
-returns-4 c = ?
+unfolding portOutputCommand decodeType
+returns-4 c =
+    let c1 = c .before .before .before in
+    simp (c .goto-absolute-positions .ensures, le-ltb _ _ (c1 .if1 .left), c .before .match .keys3)
 
--- src/lib.rt:25:1
 returns-5 : tie.Need-returns-5
-returns-5 c = ?
+unfolding portOutputCommand decodeType
+returns-5 c =
+    let c1 = c .before .before .before in
+    simp (c .preset-encoders .ensures, le-ltb _ _ (c1 .if1 .left), c .before .match .keys4)
 
--- src/lib.rt:25:1
 returns-6 : tie.Need-returns-6
-returns-6 c = ?
+unfolding portOutputCommand decodeType
+returns-6 c =
+    let c1 = c .before .before .before in
+    simp (c .outside .ensures, le-ltb _ _ (c1 .if1 .left), ne-eqb _ _ (c .before .match .rest .0 .0 .0 .1), ne-eqb _ _ (c .before .match .rest .0 .0 .1), ne-eqb _ _ (c .before .match .rest .0 .1), ne-eqb _ _ (c .before .match .rest .1))
 
 pub port-output-command-spec : {M : Type 1} → statement M
 port-output-command-spec =
