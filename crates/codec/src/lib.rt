@@ -11,6 +11,8 @@ use hub_messages::hub::hub_alerts_down;
 use hub_messages::hub::hub_alerts_up;
 use hub_messages::refusal::refuse;
 use mode_messages::port_mode_information;
+use motor_messages::output_feedback;
+use motor_messages::port_output_command;
 use port_messages::hub_attached_io;
 use port_messages::input_format;
 use port_messages::input_format_setup;
@@ -74,6 +76,7 @@ fn read_down(s: &[u8]) -> Reading
         0x22 => mode_information_request(s),
         0x41 => input_format_setup(s),
         0x61 => virtual_port_setup(s),
+        0x81 => port_output_command(s),
         _ => refuse(5, 2),
     }
 }
@@ -95,12 +98,13 @@ fn read_up(s: &[u8]) -> Reading
         0x44 => port_mode_information(s),
         0x45 => port_value(s),
         0x47 => input_format(s),
+        0x82 => output_feedback(s),
         _ => refuse(5, 2),
     }
 }
 
-// The name, symbol, text or value bytes of an accepted message: that part of the caller's own
-// message. Empty for any other message.
+// The open bytes of an accepted message (a name, symbol, text, value or feedback): that part of the
+// caller's own message. Empty for any other message.
 pub fn open_part(message: &[u8], way: Way) -> &[u8]
     ensures { λ r. ⌜ now r ≡ openPart way (now (message .entry)) ⌝ }
 {
@@ -136,6 +140,7 @@ fn open_start(m: Message, size: usize) -> usize
             information: _,
         } => 6,
         Message::PortValue { port: _ } => 4,
+        Message::OutputFeedback => 3,
         _ => size,
     }
 }

@@ -23,7 +23,7 @@ nothing-left : (s : List ℕ) (n : ℕ) → length s ≡ n → [] ≡ drop n s
 nothing-left s n e = sym (drop-of-length-le s (le-of-eq e))
 
 abbrev others : List ℕ
-others = 0 ∷ 2 ∷ 3 ∷ 4 ∷ 5 ∷ 6 ∷ 7 ∷ 8 ∷ 9 ∷ 10 ∷ 11 ∷ 12 ∷ 13 ∷ 14 ∷ 15 ∷ 16 ∷ 17 ∷ 18 ∷ 19 ∷ 20 ∷ 21 ∷ 22 ∷ 24 ∷ 25 ∷ 26 ∷ 27 ∷ 28 ∷ 30 ∷ 31 ∷ 32 ∷ []
+others = 0 ∷ 2 ∷ 3 ∷ 4 ∷ 5 ∷ 6 ∷ 7 ∷ 8 ∷ 9 ∷ 10 ∷ 11 ∷ 12 ∷ 13 ∷ 14 ∷ 15 ∷ 16 ∷ 17 ∷ 18 ∷ 19 ∷ 20 ∷ 21 ∷ 22 ∷ 24 ∷ 25 ∷ 26 ∷ 27 ∷ 28 ∷ 30 ∷ 31 ∷ 32 ∷ 33 ∷ 34 ∷ 35 ∷ 36 ∷ []
 
 no-open : (m : Message) → OneOf others (tagOf the-type m) → (s : List ℕ) (n : ℕ) → length s ≡ n → openOf s (accepted (formOf m) (valuesOf m)) ≡ drop n s
 unfolding layout
@@ -60,6 +60,11 @@ no-open (Message'.PortValue p) t s n′ e = absurd (miss others 29 tt t)
 no-open (Message'.InputFormat p m d n) t s n′ e = nothing-left s n′ e
 no-open (Message'.VirtualDisconnect p) t s n′ e = nothing-left s n′ e
 no-open (Message'.VirtualConnect a b) t s n′ e = nothing-left s n′ e
+no-open (Message'.StartSpeedForDegrees p b d l r w e′ u) t s n′ e = nothing-left s n′ e
+no-open (Message'.GotoAbsolutePosition p b a v w e′ u) t s n′ e = nothing-left s n′ e
+no-open (Message'.GotoAbsolutePositions p b a a′ v w e′ u) t s n′ e = nothing-left s n′ e
+no-open (Message'.PresetEncoders p b l r) t s n′ e = nothing-left s n′ e
+no-open Message'.OutputFeedback t s n′ e = absurd (miss others 37 tt t)
 
 enum-told : tie.Need-enum-told
 enum-told c = search needs
@@ -69,6 +74,9 @@ enum-told-2 c = search needs
 
 enum-told-3 : tie.Need-enum-told-3
 enum-told-3 c = search needs
+
+enum-told-4 : tie.Need-enum-told-4
+enum-told-4 c = search needs
 
 returns : tie.Need-returns
 unfolding layout
@@ -83,8 +91,13 @@ unfolding layout
 returns-3 c = λ s e. ap (openOfMessage s) (c .enum-told3 .given .1)
 
 returns-4 : tie.Need-returns-4
-returns-4 c = λ s e. no-open (c .before .args .m) (c .match .keys4) s (c .before .args .size) e
+unfolding layout
+returns-4 c = λ s e. ap (openOfMessage s) (c .enum-told4 .given .1)
+
+returns-5 : tie.Need-returns-5
+returns-5 c = λ s e. no-open (c .before .args .m) (c .match .keys5) s (c .before .args .size) e
 
 pub open-start-spec : {M : Type 1} → statement M
 open-start-spec =
-    tie.close (tie.spec enum-told enum-told-2 enum-told-3 returns returns-2 returns-3 returns-4)
+    tie.close
+    (tie.spec enum-told enum-told-2 enum-told-3 enum-told-4 returns returns-2 returns-3 returns-4 returns-5)

@@ -41,6 +41,9 @@ input-format-setup-requires c κs = search needs
 virtual-port-setup-requires : tie.Need-virtual-port-setup-requires
 virtual-port-setup-requires c κs = search needs
 
+port-output-command-requires : tie.Need-port-output-command-requires
+port-output-command-requires c κs = search needs
+
 refuse-requires : tie.Need-refuse-requires
 refuse-requires c κs = search needs
 
@@ -97,10 +100,14 @@ unfolding types
 returns-10 c = c .virtual-port-setup .ensures ∙ sym (typed Down _ 97 (c .before .match .keys10))
 
 returns-11 : tie.Need-returns-11
+unfolding types
+returns-11 c = c .port-output-command .ensures ∙ sym (typed Down _ 129 (c .before .match .keys11))
+
+returns-12 : tie.Need-returns-12
 unfolding decodeWay types
-returns-11 c =
+returns-12 c =
     let r = c .before .match .rest in
-    simp (c .refuse .ensures, ne-eqb _ _ (r .0 .0 .0 .0 .0 .0 .0 .0 .0 .1), ne-eqb _ _ (r .0 .0 .0 .0 .0 .0 .0 .0 .1), ne-eqb _ _ (r .0 .0 .0 .0 .0 .0 .0 .1), ne-eqb _ _ (r .0 .0 .0 .0 .0 .0 .1), ne-eqb _ _ (r .0 .0 .0 .0 .0 .1), ne-eqb _ _ (r .0 .0 .0 .0 .1), ne-eqb _ _ (r .0 .0 .0 .1), ne-eqb _ _ (r .0 .0 .1), ne-eqb _ _ (r .0 .1), ne-eqb _ _ (r .1))
+    simp (c .refuse .ensures, ne-eqb _ _ (r .0 .0 .0 .0 .0 .0 .0 .0 .0 .0 .1), ne-eqb _ _ (r .0 .0 .0 .0 .0 .0 .0 .0 .0 .1), ne-eqb _ _ (r .0 .0 .0 .0 .0 .0 .0 .0 .1), ne-eqb _ _ (r .0 .0 .0 .0 .0 .0 .0 .1), ne-eqb _ _ (r .0 .0 .0 .0 .0 .0 .1), ne-eqb _ _ (r .0 .0 .0 .0 .0 .1), ne-eqb _ _ (r .0 .0 .0 .0 .1), ne-eqb _ _ (r .0 .0 .0 .1), ne-eqb _ _ (r .0 .0 .1), ne-eqb _ _ (r .0 .1), ne-eqb _ _ (r .1))
 
 pub read-down-spec : {M : Type 1} → statement M
 read-down-spec =
@@ -117,6 +124,7 @@ read-down-spec =
     mode-information-request-requires
     input-format-setup-requires
     virtual-port-setup-requires
+    port-output-command-requires
     refuse-requires
     returns
     returns-2
@@ -128,4 +136,5 @@ read-down-spec =
     returns-8
     returns-9
     returns-10
-    returns-11)
+    returns-11
+    returns-12)

@@ -42,6 +42,9 @@ port-value-requires c κs = search needs
 input-format-requires : tie.Need-input-format-requires
 input-format-requires c κs = search needs
 
+output-feedback-requires : tie.Need-output-feedback-requires
+output-feedback-requires c κs = search needs
+
 refuse-requires : tie.Need-refuse-requires
 refuse-requires c κs = search needs
 
@@ -97,10 +100,16 @@ returns-10 c =
     c .input-format .ensures ∙ sym (typed Up _ 71 (c .before .match .keys10) ∙ long-enough _ _ (c1 .pre))
 
 returns-11 : tie.Need-returns-11
+unfolding types
+returns-11 c = 
+    let c1 = c .before .before .before .before in
+    c .output-feedback .ensures ∙ sym (typed Up _ 130 (c .before .match .keys11) ∙ long-enough _ _ (c1 .pre))
+
+returns-12 : tie.Need-returns-12
 unfolding decodeWay types
-returns-11 c =
+returns-12 c =
     let r = c .before .match .rest in
-    simp (c .refuse .ensures, ne-eqb _ _ (r .0 .0 .0 .0 .0 .0 .0 .0 .0 .1), ne-eqb _ _ (r .0 .0 .0 .0 .0 .0 .0 .0 .1), ne-eqb _ _ (r .0 .0 .0 .0 .0 .0 .0 .1), ne-eqb _ _ (r .0 .0 .0 .0 .0 .0 .1), ne-eqb _ _ (r .0 .0 .0 .0 .0 .1), ne-eqb _ _ (r .0 .0 .0 .0 .1), ne-eqb _ _ (r .0 .0 .0 .1), ne-eqb _ _ (r .0 .0 .1), ne-eqb _ _ (r .0 .1), ne-eqb _ _ (r .1))
+    simp (c .refuse .ensures, ne-eqb _ _ (r .0 .0 .0 .0 .0 .0 .0 .0 .0 .0 .1), ne-eqb _ _ (r .0 .0 .0 .0 .0 .0 .0 .0 .0 .1), ne-eqb _ _ (r .0 .0 .0 .0 .0 .0 .0 .0 .1), ne-eqb _ _ (r .0 .0 .0 .0 .0 .0 .0 .1), ne-eqb _ _ (r .0 .0 .0 .0 .0 .0 .1), ne-eqb _ _ (r .0 .0 .0 .0 .0 .1), ne-eqb _ _ (r .0 .0 .0 .0 .1), ne-eqb _ _ (r .0 .0 .0 .1), ne-eqb _ _ (r .0 .0 .1), ne-eqb _ _ (r .0 .1), ne-eqb _ _ (r .1))
 
 pub read-up-spec : {M : Type 1} → statement M
 read-up-spec =
@@ -117,6 +126,7 @@ read-up-spec =
     port-mode-information-requires
     port-value-requires
     input-format-requires
+    output-feedback-requires
     refuse-requires
     returns
     returns-2
@@ -128,4 +138,5 @@ read-up-spec =
     returns-8
     returns-9
     returns-10
-    returns-11)
+    returns-11
+    returns-12)
