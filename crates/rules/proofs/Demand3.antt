@@ -89,7 +89,7 @@ next cells h k e b (accepted x) j =
       table = apply x t;
       cells-are = ap (λ (c : List ℕ). cellsOf (apply x (tableAt c))) (k .cells-are) ∙ ap (λ (u : Table). cellsOf (apply x u)) (back t (k .good));
       good = kept t (k .good) e b x said;
-      follows = follows-step x t h (a .count) (k .good) (k .follows) (a .good);
+      follows = follows-step x t h (a .opens) (k .good) (k .follows) (a .good);
     }
 
 through : (cells : List ℕ) (past rest : List Entry) → EntriesFit rest → Holds cells (acceptedHistory past) → AgreeThrough cells past rest

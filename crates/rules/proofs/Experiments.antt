@@ -7,7 +7,7 @@ use mathlib.Core.Option.{Option, none, some}
 use native.Mathlib.Omega.{arith}
 use lib.Dec.{eqb, ltb}
 use lib.Ieee.{binary32, ofBits}
-use lib.ListN.{length}
+
 use Rattle.protocol.specs.Number.{littleEndian, isFinite}
 use Rattle.protocol.specs.Decode as Decode
 use Rattle.protocol.specs.Decode.{decode, openOf}
@@ -16,7 +16,7 @@ use Rattle.protocol.specs.declared.Way.{Way}
 use Rattle.protocol.specs.declared.Message.{Message}
 use Rattle.protocol.specs.declared.Message.the-variants as Message'
 use Rattle.rules.specs.Answer.{Answer, refused, accepted, outcome, unlessRefused}
-use Rattle.rules.specs.Effect.{Change, Unchanged, Formatted, Answered, Asked, Effect, Nothing, ToPort, Attach, AttachVirtual, Detach, Value, Disconnect, Connect, Empty, emptiesTable, effectOf}
+use Rattle.rules.specs.Effect.{Change, Unchanged, Formatted, Answered, Asked, Effect, Nothing, ToPort, Attach, AttachVirtual, Detach, Value, Disconnect, Connect, Empty, ToVirtual, Feedback, emptiesTable, effectOf}
 use Rattle.rules.specs.Facts.{Format, Settings, Wiring, Unjoined, Joined, Virtual, Facts, Ports}
 use Rattle.rules.specs.ValueLookup.{ValueLookup, Found, Refused, withFormat, withFacts, valueExperiment, valueLookup}
 use Rattle.rules.specs.Judge.{judge}
@@ -45,17 +45,19 @@ effectNumber (Value port) = 0
 effectNumber (Disconnect port) = 0
 effectNumber (Connect a b) = 0
 effectNumber Empty = 0
+effectNumber (ToVirtual port) = 0
+effectNumber Feedback = 0
 
 -- a message with two numbers is judged alike and has the same datasets; where it is no asking it is the same to a table
 record TwoNumbers (n m : ℕ) (message : Message) : Type 0 where
-  judges : (ports : Ports) (count : ℕ) → judge ports (effectOf n message) count ≡ judge ports (effectOf m message) count
+  judges : (ports : Ports) (opens : List ℕ) → judge ports (effectOf n message) opens ≡ judge ports (effectOf m message) opens
   datasets : (ports : Ports) (bytes : List ℕ) (k : ℕ) → datasetAnswer ports (effectOf n message) bytes k ≡ datasetAnswer ports (effectOf m message) bytes k
   effects : isAsking (effectOf n message) ≡ false → effectOf n message ≡ effectOf m message
   number : effectNumber (effectOf n message) ≤ n
 
 no-asking : {n m : ℕ} {message : Message} → effectOf n message ≡ effectOf m message → effectNumber (effectOf n message) ≡ 0 → TwoNumbers n m message
 no-asking e none-told = record {
-  judges = λ ports count. ap (λ (x : Effect). judge ports x count) e;
+  judges = λ ports opens. ap (λ (x : Effect). judge ports x opens) e;
   datasets = λ ports bytes k. ap (λ (x : Effect). datasetAnswer ports x bytes k) e;
   effects = λ h. e;
   number = omega (arith, none-told);
@@ -83,7 +85,7 @@ two-numbers n m Message'.LockStatusRequest = no-asking refl refl
 two-numbers n m (Message'.LockStatus v) = no-asking refl refl
 two-numbers n m (Message'.PortInformationRequest p i) = no-asking refl refl
 two-numbers n m (Message'.ModeInformationRequest p k i) = no-asking refl refl
-two-numbers n m (Message'.InputFormatSetup p k d o) = record { judges = λ ports count. refl; datasets = λ ports bytes i. refl; effects = λ h. let z : _≡_ {A = ℕ} 0 1 = cc in absurd (omega arith); number = omega arith }
+two-numbers n m (Message'.InputFormatSetup p k d o) = record { judges = λ ports opens. refl; datasets = λ ports bytes i. refl; effects = λ h. let z : _≡_ {A = ℕ} 0 1 = cc in absurd (omega arith); number = omega arith }
 two-numbers n m (Message'.PortModes p c k i o) = no-asking refl refl
 two-numbers n m (Message'.PortCombinations p c) = no-asking refl refl
 two-numbers n m (Message'.ModeText p k i) = no-asking refl refl
@@ -96,6 +98,11 @@ two-numbers n m (Message'.PortValue p) = no-asking refl refl
 two-numbers n m (Message'.InputFormat p k d o) = no-asking refl refl
 two-numbers n m (Message'.VirtualDisconnect p) = no-asking refl refl
 two-numbers n m (Message'.VirtualConnect a b) = no-asking refl refl
+two-numbers n m (Message'.StartSpeedForDegrees p s d l r w e u) = no-asking refl refl
+two-numbers n m (Message'.GotoAbsolutePosition p s a v w e u) = no-asking refl refl
+two-numbers n m (Message'.GotoAbsolutePositions p s a b v w e u) = no-asking refl refl
+two-numbers n m (Message'.PresetEncoders p s l r) = no-asking refl refl
+two-numbers n m Message'.OutputFeedback = no-asking refl refl
 
 -- handing out takes any number
 pub same-datasets : (n m : ℕ) (message : Message) (ports : Ports) (bytes : List ℕ) (k : ℕ) → datasetAnswer ports (effectOf n message) bytes k ≡ datasetAnswer ports (effectOf m message) bytes k
@@ -121,9 +128,9 @@ close-reading : (cells : List ℕ) (ports : Ports) (s : List ℕ) (n m : ℕ) (a
 close-reading cells ports s n m (Decode.refused k place) = close-refl cells (refused k place)
 close-reading cells ports s n m (Decode.accepted f vs) =
     let message : Message = messageOf f vs in
-    let count : ℕ = length (openOf s (Decode.accepted f vs)) in
+    let opens : List ℕ = openOf s (Decode.accepted f vs) in
     let two = two-numbers n m message in
-    close-unless cells (judge ports (effectOf n message) count) (judge ports (effectOf m message) count) (effectOf n message) (effectOf m message) (two .judges ports count) (two .effects)
+    close-unless cells (judge ports (effectOf n message) opens) (judge ports (effectOf m message) opens) (effectOf n message) (effectOf m message) (two .judges ports opens) (two .effects)
 
 close-offers : (cells : List ℕ) (way : Way) (bytes : List ℕ) (n m : ℕ) → Close cells (offerByCells cells (numbered way bytes n)) (offerByCells cells (numbered way bytes m))
 unfolding offerByCells judgeEntry
@@ -189,6 +196,8 @@ no-apply (Value port) z t k = k
 no-apply (Disconnect port) z t k = k
 no-apply (Connect a b) z t k = k
 no-apply Empty z t k = no-freed t
+no-apply (ToVirtual port) z t k = k
+no-apply Feedback z t k = k
 
 pub step-keeps-no-numbers : StepKeepsNoNumbers
 unfolding cellsAfter offerByCells
@@ -246,6 +255,8 @@ no-accepted ports k (Value port) bytes n = no-dataset port (valueLookup ports po
 no-accepted ports k (Disconnect port) bytes n = refl
 no-accepted ports k (Connect a b) bytes n = refl
 no-accepted ports k Empty bytes n = refl
+no-accepted ports k (ToVirtual port) bytes n = refl
+no-accepted ports k Feedback bytes n = refl
 
 no-reading : (ports : Ports) → ((port : ℕ) → lookupNumber (valueLookup ports port) ≡ 0) → (s : List ℕ) (n : ℕ) (a : Decode.Answer) → datasetExperiment (datasetReading ports s n a) ≡ 0
 unfolding datasetAnswer
@@ -253,7 +264,7 @@ no-reading ports k s n (Decode.refused m place) = refl
 no-reading ports k s n (Decode.accepted f vs) =
     let x : Effect = effectOf 0 (messageOf f vs) in
     let bytes : List ℕ = openOf s (Decode.accepted f vs) in
-    no-choice (eqb (judge ports x (length bytes)) 0) _ _ (no-accepted ports k x bytes n) refl
+    no-choice (eqb (judge ports x bytes) 0) _ _ (no-accepted ports k x bytes n) refl
 
 pub values-no-numbers : ValuesNoNumbers
 unfolding datasetByCells datasetMessage valueLookup

@@ -2,7 +2,7 @@
 use Prim.Native.Nat.{ℕ}
 use mathlib.Core.Path.{_≡_, refl, sym, _∙_, ap, subst}
 use mathlib.Core.Bool.{Bool, true, false, cond, not, _&&_}
-use mathlib.Core.List.{map}
+use mathlib.Core.List.{List, map}
 use mathlib.Core.Option.{Option, none, some}
 use mathlib.Core.Logic.{_⊎_, inl, inr}
 use native.Mathlib.Omega.{arith}
@@ -10,7 +10,7 @@ use borrow.Author.Tests.{eqb-false, ltb-true}
 use lib.Dec.{eqb, ltb}
 use Rattle.protocol.proofs.Tests.{and-left, and-right}
 use Rattle.rules.specs.Layout.{portCount}
-use Rattle.rules.specs.Effect.{Change, Effect, Nothing, ToPort, Attach, AttachVirtual, Detach, Value, Disconnect, Connect, Empty}
+use Rattle.rules.specs.Effect.{Change, Effect, Nothing, ToPort, Attach, AttachVirtual, Detach, Value, Disconnect, Connect, Empty, ToVirtual, Feedback}
 use Rattle.rules.specs.Facts.{Wiring, Unjoined, Joined, Virtual, isUnjoined, Facts, known}
 use Rattle.rules.specs.Judge.{presentUnjoined, pairTest, judge}
 use Rattle.rules.specs.Learn.{learn}
@@ -106,24 +106,26 @@ detach-known t s p (some f) e k = sound-detach t s p (f .wiring) (ap wiring? e)
 
 -- ---- every message
 
-pub keeps : (e : Effect) (t : Table) (count : ℕ) → Sound t → effectFits e ≡ true → judge (portsOfTable t) e count ≡ 0 → Sound (apply e t)
+pub keeps : (e : Effect) (t : Table) (opens : List ℕ) → Sound t → effectFits e ≡ true → judge (portsOfTable t) e opens ≡ 0 → Sound (apply e t)
 unfolding judge apply
-keeps Nothing t n s fits ok = s
-keeps (ToPort p c) t n s fits ok = sound-keep p (onSettings (learn c)) t s (λ g. refl) (fit-learn p c fits)
-keeps (Attach p d) t n s fits ok =
+keeps Nothing t o s fits ok = s
+keeps (ToPort p c) t o s fits ok = sound-keep p (onSettings (learn c)) t s (λ g. refl) (fit-learn p c fits)
+keeps (Attach p d) t o s fits ok =
     let fresh = fresh-by (viewOfTable t p) (fullTable t) ok in
     sound-attach (newRecord p d Unjoined) t s (fresh .1) (fresh .0) refl (fit-bare p d Unjoined (and-left (ltb p portCount) (ltb d 65536) fits) (and-right (ltb p portCount) (ltb d 65536) fits))
-keeps (AttachVirtual p d a b) t n s fits ok =
+keeps (AttachVirtual p d a b) t o s fits ok =
     let fresh = virtual-by (viewOfTable t p) (pairTest (viewOfTable t) a b) (fullTable t) ok in
     let good = good-pair t a b (fresh .1) in
     let three-fit = and-left (ltb p portCount && ltb d 65536 && ltb a portCount) (ltb b portCount) fits in
     let two-fit = and-left (ltb p portCount && ltb d 65536) (ltb a portCount) three-fit in
     sound-virtual t s p d a b (fresh .2) (fresh .0) (good .one) (good .two) (good .apart) (fit-bare p d (Virtual a b) (and-left (ltb p portCount) (ltb d 65536) two-fit) (and-right (ltb p portCount) (ltb d 65536) two-fit))
-keeps (Detach p) t n s fits ok = detach-known t s p (viewOfTable t p) refl (wanted (viewOfTable t p) ok)
-keeps (Value p) t n s fits ok = s
-keeps (Disconnect p) t n s fits ok = s
-keeps (Connect a b) t n s fits ok = s
-keeps Empty t n s fits ok = record {
+keeps (Detach p) t o s fits ok = detach-known t s p (viewOfTable t p) refl (wanted (viewOfTable t p) ok)
+keeps (Value p) t o s fits ok = s
+keeps (Disconnect p) t o s fits ok = s
+keeps (Connect a b) t o s fits ok = s
+keeps Empty t o s fits ok = record {
   loose = loose-freed t (s .loose .size);
   pairs = pairs-none (wiredIn (map freed t)) (λ q. ap wiring? (view-freed t q));
 }
+keeps (ToVirtual p) t o s fits ok = s
+keeps Feedback t o s fits ok = s

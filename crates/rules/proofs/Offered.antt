@@ -8,7 +8,6 @@ use mathlib.Core.Logic.{⊎-elim}
 use native.Mathlib.Omega.{arith}
 use borrow.Author.Tests.{eqb-true, eq-eqb}
 use lib.Dec.{eqb}
-use lib.ListN.{length}
 use Rattle.protocol.proofs.Tests.{which}
 use Rattle.protocol.specs.Field.{Value}
 use Rattle.protocol.specs.Form.{Form}
@@ -37,8 +36,8 @@ pub record Accepted (ports : Ports) (e : Entry) (effect : Effect) : Type 0 where
   pub values : List Value
   pub read : decode (e .way) (e .bytes) ≡ Decode.accepted form values
   pub is : effect ≡ effectOf (e .experiment) (messageOf form values)
-  pub count : ℕ
-  pub good : judge ports effect count ≡ 0
+  pub opens : List ℕ
+  pub good : judge ports effect opens ≡ 0
 
 never : {A : Type 0} (n place : ℕ) (y : A) → refused n place ≡ accepted y → ⊥
 never n place y e = let z : _≡_ {A = ℕ} 0 1 = cc in omega arith
@@ -62,10 +61,10 @@ was-accepted ports e effect k = go (decode (e .way) (e .bytes)) refl k
     go (Decode.refused n place) r j = let z : _≡_ {A = ℕ} 0 1 = cc in absurd (omega arith)
     go (Decode.accepted f vs) r j =
         let x : Effect = effectOf (e .experiment) (messageOf f vs) in
-        let count : ℕ = length (openOf (e .bytes) (Decode.accepted f vs)) in
-        let v = unless-accepted (judge ports x count) (accepted x) effect j in
+        let opens : List ℕ = openOf (e .bytes) (Decode.accepted f vs) in
+        let v = unless-accepted (judge ports x opens) (accepted x) effect j in
         let is : effect ≡ x = sym (same x effect (v .1)) in
-        record { form = f; values = vs; read = r; is = is; count = count; good = ap (λ (y : Effect). judge ports y count) is ∙ v .0 }
+        record { form = f; values = vs; read = r; is = is; opens = opens; good = ap (λ (y : Effect). judge ports y opens) is ∙ v .0 }
 
 -- ---- the cells of a sound table
 
@@ -93,4 +92,4 @@ module _ (t : Table) (s : Sound t) where
   pub kept : (e : Entry) → EntryFits e → (x : Effect) → judgeEntry (portsOfTable t) e ≡ accepted x → Sound (apply x t)
   kept e b x k =
       let a = was-accepted (portsOfTable t) e x k in
-      keeps x t (a .count) s (ap effectFits (a .is) ∙ effect-fits (e .experiment) (b .1) (e .way) (e .bytes) (b .0) (a .form) (a .values) (a .read)) (a .good)
+      keeps x t (a .opens) s (ap effectFits (a .is) ∙ effect-fits (e .experiment) (b .1) (e .way) (e .bytes) (b .0) (a .form) (a .values) (a .read)) (a .good)

@@ -6,6 +6,7 @@ use mathlib.Core.Bool.{Bool, true, false, cond}
 use mathlib.Core.List.{List, [], _∷_, _++_}
 use borrow.Author.Tests.{lt-ltb}
 use lib.Dec.{ltb}
+use lib.IntN.{ℤ}
 use lib.Ieee.{Float, binary32, ofBits}
 use lib.ListN.{length}
 use Rattle.protocol.specs.Number.{Bytes, littleEndian, bigEndian, twosComplement, isFinite}
@@ -36,7 +37,7 @@ abbrev AllListed : List Field → (ℕ → ℕ) → Type 0
 AllListed [] at = Unit {0}
 AllListed (number w rule ∷ fs) at = Listed w rule (at 0) × AllListed fs (λ i. at (suc i))
 AllListed (highFirst w ∷ fs) at = AllListed fs (λ i. at (suc i))
-AllListed (signed w ∷ fs) at = AllListed fs (λ i. at (suc i))
+AllListed (signed w rule ∷ fs) at = AllListed fs (λ i. at (suc i))
 AllListed (float ∷ fs) at = AllListed fs (λ i. at (suc i))
 AllListed (fixed bytes ∷ fs) at = AllListed fs at
 
@@ -52,10 +53,10 @@ all-listed (highFirst w ∷ fs) s at b h vs rest e =
     let r = both-read (readField s at (highFirst w)) (readFields s (at + w) fs) vs e in
     let is : r .first ≡ natural (bigEndian s at w) ∷ [] = cc in
     rw (r .joined, is) (all-listed fs s (at + w) b (omega arith) (r .second) rest (r .second-is))
-all-listed (signed w ∷ fs) s at b h vs rest e =
-    let r = both-read (readField s at (signed w)) (readFields s (at + w) fs) vs e in
-    let is : r .first ≡ integer (twosComplement w (littleEndian s at w)) ∷ [] = cc in
-    rw (r .joined, is) (all-listed fs s (at + w) b (omega arith) (r .second) rest (r .second-is))
+all-listed (signed w rule ∷ fs) s at b h vs rest e =
+    let r = both-read (readField s at (signed w rule)) (readFields s (at + w) fs) vs e in
+    let z : ℤ = twosComplement w (littleEndian s at w) in
+    rw (r .joined, within-yes (rule z) at (integer z) (r .first) (r .first-is) .1) (all-listed fs s (at + w) b (omega arith) (r .second) rest (r .second-is))
 all-listed (float ∷ fs) s at b h vs rest e =
     let r = both-read (readField s at float) (readFields s (at + 4) fs) vs e in
     let x : Float = ofBits binary32 (littleEndian s at 4) in
@@ -105,6 +106,11 @@ listed-fits experiment small Form.portValue vs k = refl
 listed-fits experiment small Form.inputFormat vs (port, (mode, (delta, (notify, k)))) = rw (mode .1, delta .0, notify .1)
 listed-fits experiment small Form.virtualDisconnect vs k = refl
 listed-fits experiment small Form.virtualConnect vs k = refl
+listed-fits experiment small Form.startSpeedForDegrees vs k = refl
+listed-fits experiment small Form.gotoAbsolutePosition vs k = refl
+listed-fits experiment small Form.gotoAbsolutePositions vs k = refl
+listed-fits experiment small Form.presetEncoders vs k = refl
+listed-fits experiment small Form.outputFeedback vs k = refl
 
 pub effect-fits : (experiment : ℕ) → ltb experiment experimentCount ≡ true → (way : Way) (s : List ℕ) → Bytes s → (f : Form) (vs : List Value) → decode way s ≡ accepted f vs → effectFits (effectOf experiment (messageOf f vs)) ≡ true
 effect-fits experiment small way s b f vs e =

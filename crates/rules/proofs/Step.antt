@@ -2,14 +2,14 @@
 use Prim.Native.Nat.{ℕ}
 use mathlib.Core.Path.{_≡_, refl, sym, _∙_, ap}
 use mathlib.Core.Bool.{Bool, true, false, cond, _||_}
-use mathlib.Core.List.{[], _∷_}
+use mathlib.Core.List.{List, [], _∷_}
 use mathlib.Core.Option.{Option, none, some}
 use mathlib.Core.Logic.{_⊎_, inl, inr, ⊎-elim}
 use native.Mathlib.Omega.{arith}
 use borrow.Author.Tests.{eqb-true, eqb-false}
 use lib.Dec.{eqb}
 use Rattle.protocol.proofs.Tests.{which}
-use Rattle.rules.specs.Effect.{Effect, Nothing, ToPort, Attach, AttachVirtual, Detach, Value, Disconnect, Connect, Empty}
+use Rattle.rules.specs.Effect.{Effect, Nothing, ToPort, Attach, AttachVirtual, Detach, Value, Disconnect, Connect, Empty, ToVirtual, Feedback}
 use Rattle.rules.specs.Facts.{Wiring, Unjoined, Joined, Virtual, Facts, known}
 use Rattle.rules.specs.Judge.{pairTest, judge}
 use Rattle.rules.specs.History.{History, plain, pair, Since, absent, since, unlessMember, sinceAttached, isPartner}
@@ -145,21 +145,23 @@ follows-virtual t h f p d a b room fresh one two ab q =
 
 -- ---- every message
 
-pub follows-step : (e : Effect) (t : Table) (h : History) (count : ℕ) → Sound t → Follows t h → judge (portsOfTable t) e count ≡ 0 → Follows (apply e t) (e ∷ h)
+pub follows-step : (e : Effect) (t : Table) (h : History) (opens : List ℕ) → Sound t → Follows t h → judge (portsOfTable t) e opens ≡ 0 → Follows (apply e t) (e ∷ h)
 unfolding judge apply sinceAttached
-follows-step Nothing t h n s f ok = f
-follows-step (ToPort p c) t h n s f ok =
+follows-step Nothing t h o s f ok = f
+follows-step (ToPort p c) t h o s f ok =
     λ q.
     core-change p (onSettings (learn c)) (λ g. refl) t q ∙ ap (after p (onSettings (learn c)) q) (f q) ∙ sym (facts-told (eqb p q) c (sinceAttached q h))
-follows-step (Attach p d) t h n s f ok =
+follows-step (Attach p d) t h o s f ok =
     let fresh = fresh-by (viewOfTable t p) (fullTable t) ok in
     follows-attach t h f p d (fresh .1) (fresh .0)
-follows-step (AttachVirtual p d a b) t h n s f ok =
+follows-step (AttachVirtual p d a b) t h o s f ok =
     let fresh = virtual-by (viewOfTable t p) (pairTest (viewOfTable t) a b) (fullTable t) ok in
     let good = good-pair t a b (fresh .1) in
     follows-virtual t h f p d a b (fresh .2) (fresh .0) (good .one) (good .two) (good .apart)
-follows-step (Detach p) t h n s f ok = detach-known t s h f p (viewOfTable t p) refl (wanted (viewOfTable t p) ok)
-follows-step (Value p) t h n s f ok = f
-follows-step (Disconnect p) t h n s f ok = f
-follows-step (Connect a b) t h n s f ok = f
-follows-step Empty t h n s f ok = λ q. ap (mapFacts unwire) (view-freed t q)
+follows-step (Detach p) t h o s f ok = detach-known t s h f p (viewOfTable t p) refl (wanted (viewOfTable t p) ok)
+follows-step (Value p) t h o s f ok = f
+follows-step (Disconnect p) t h o s f ok = f
+follows-step (Connect a b) t h o s f ok = f
+follows-step Empty t h o s f ok = λ q. ap (mapFacts unwire) (view-freed t q)
+follows-step (ToVirtual p) t h o s f ok = f
+follows-step Feedback t h o s f ok = f

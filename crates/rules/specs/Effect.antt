@@ -8,7 +8,7 @@ use Rattle.rules.specs.Facts.{Setup}
 pub use Rattle.rules.specs.declared.Change.{Change}
 pub use Rattle.rules.specs.declared.Change.the-variants.{Unchanged, Formatted, Answered, Asked}
 pub use Rattle.rules.specs.declared.Effect.{Effect}
-pub use Rattle.rules.specs.declared.Effect.the-variants.{Nothing, ToPort, Attach, AttachVirtual, Detach, Value, Disconnect, Connect, Empty}
+pub use Rattle.rules.specs.declared.Effect.the-variants.{Nothing, ToPort, Attach, AttachVirtual, Detach, Value, Disconnect, Connect, Empty, ToVirtual, Feedback}
 
 abbrev pub setup : ℕ → ℕ → ℕ → Setup
 setup m d n = record { mode = m; delta = d; notify = n }
@@ -55,3 +55,8 @@ effectOf experiment (Message'.PortValue port) = Value port
 effectOf experiment (Message'.InputFormat port m d n) = ToPort port (Answered (setup m d n))
 effectOf experiment (Message'.VirtualDisconnect port) = Disconnect port
 effectOf experiment (Message'.VirtualConnect a b) = Connect a b
+effectOf experiment (Message'.StartSpeedForDegrees port s d l r w e u) = ToVirtual port
+effectOf experiment (Message'.GotoAbsolutePosition port s a v w e u) = ToPort port Unchanged
+effectOf experiment (Message'.GotoAbsolutePositions port s a b v w e u) = ToVirtual port
+effectOf experiment (Message'.PresetEncoders port s l r) = ToVirtual port
+effectOf experiment Message'.OutputFeedback = Feedback

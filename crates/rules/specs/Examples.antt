@@ -14,7 +14,7 @@ use Rattle.rules.specs.Answer.{Answer, refused, accepted, outcome}
 use Rattle.rules.specs.Effect.{setup, Formatted}
 use Rattle.rules.specs.Facts.{Setup, Format, Settings, Wiring, Unjoined, Joined, Virtual, Facts}
 use Rattle.rules.specs.ValueLookup.{valueExperiment}
-use Rattle.rules.specs.Judge.{widthOf, judgeDisconnect}
+use Rattle.rules.specs.Judge.{widthOf, refusalUnlessVirtual, portsNamed}
 use Rattle.rules.specs.Learn.{bareSettings, learn}
 use Rattle.rules.specs.Offer.{Entry, offerByPast, datasetByPast, viewOfPast}
 use Rattle.rules.specs.Present.{portsBelow}
@@ -63,7 +63,24 @@ value bytes = up ((4 + length bytes) ∷ 0x00 ∷ 0x45 ∷ 0x00 ∷ bytes)
 abbrev five : Entry
 five = value (0x05 ∷ 0x00 ∷ 0x00 ∷ 0x00 ∷ [])
 
--- one of each form that wants its port present: 21, 22, 41, 43, 44, 45, 47 and a detachment
+-- motor commands to a port: 0C, 0D, 0E and 14
+abbrev forDegrees : ℕ → Entry
+forDegrees port = down (0x0F ∷ 0x00 ∷ 0x81 ∷ port ∷ 0x11 ∷ 0x0C ∷ 0x5A ∷ 0x00 ∷ 0x00 ∷ 0x00 ∷ 0x9C ∷ 0x64 ∷ 0x64 ∷ 0x7F ∷ 0x03 ∷ [])
+
+abbrev toPosition : ℕ → Entry
+toPosition port = down (0x0E ∷ 0x00 ∷ 0x81 ∷ port ∷ 0x11 ∷ 0x0D ∷ 0x5A ∷ 0x00 ∷ 0x00 ∷ 0x00 ∷ 0x32 ∷ 0x64 ∷ 0x7F ∷ 0x03 ∷ [])
+
+abbrev toPositions : ℕ → Entry
+toPositions port = down (0x12 ∷ 0x00 ∷ 0x81 ∷ port ∷ 0x11 ∷ 0x0E ∷ 0x5A ∷ 0x00 ∷ 0x00 ∷ 0x00 ∷ 0xA6 ∷ 0xFF ∷ 0xFF ∷ 0xFF ∷ 0x32 ∷ 0x64 ∷ 0x7F ∷ 0x03 ∷ [])
+
+abbrev encoders : ℕ → Entry
+encoders port = down (0x0E ∷ 0x00 ∷ 0x81 ∷ port ∷ 0x11 ∷ 0x14 ∷ 0x00 ∷ 0x00 ∷ 0x00 ∷ 0x00 ∷ 0x00 ∷ 0x00 ∷ 0x00 ∷ 0x00 ∷ [])
+
+-- their feedback, as pairs
+abbrev feedback : List ℕ → Entry
+feedback bytes = up ((3 + length bytes) ∷ 0x00 ∷ 0x82 ∷ bytes)
+
+-- one of each form that wants its port present: 21, 22, 41, 43, 44, 45, 47, 81, 82 and a detachment
 abbrev wanting : List Entry
 wanting =
     request
@@ -79,6 +96,11 @@ wanting =
     ∷ format 2 1 2
     ∷ five
     ∷ answered 2 1 1
+    ∷ forDegrees 0
+    ∷ toPosition 0
+    ∷ toPositions 0
+    ∷ encoders 0
+    ∷ feedback (0 ∷ 0x0A ∷ [])
     ∷ detached 0
     ∷ []
 
@@ -262,6 +284,43 @@ pairs =
     ∷ refuses joined (disconnect 2) 10
     ∷ []
 
+-- 81: a virtual port takes all four; a member and an unjoined port take 0D, and the others are 22, after 10
+abbrev commands : List Example
+commands =
+    accepts joined (forDegrees 16)
+    ∷ accepts joined (toPosition 16)
+    ∷ accepts joined (toPositions 16)
+    ∷ accepts joined (encoders 16)
+    ∷ accepts joined (toPosition 0)
+    ∷ accepts motor (toPosition 0)
+    ∷ refuses joined (forDegrees 0) 22
+    ∷ refuses joined (toPositions 1) 22
+    ∷ refuses joined (encoders 1) 22
+    ∷ refuses motor (forDegrees 0) 22
+    ∷ refuses joined (forDegrees 2) 10
+    -- the fields come first; a member that was pulled takes the virtual port with it
+    ∷ offers [] (down (0x0E ∷ 0x00 ∷ 0x81 ∷ 0x00 ∷ 0x21 ∷ 0x14 ∷ 0x00 ∷ 0x00 ∷ 0x00 ∷ 0x00 ∷ 0x00 ∷ 0x00 ∷ 0x00 ∷ 0x00 ∷ [])) (refused 7 4)
+    ∷ refuses (joined ++ (detached 1 ∷ [])) (toPositions 16) 10
+    -- no datasets; nothing is changed
+    ∷ hands joined (toPositions 16) 0 (refused 17 0)
+    ∷ hands joined (toPositions 0) 0 (refused 22 0)
+    ∷ knows (joined ++ (forDegrees 16 ∷ encoders 16 ∷ [])) 16 (present 0x26 (Virtual 0 1))
+    ∷ []
+
+-- 82: every port named is present, a port may be named twice; the fields come first
+abbrev feedbacks : List Example
+feedbacks =
+    accepts joined (feedback (16 ∷ 0x0A ∷ []))
+    ∷ accepts joined (feedback (16 ∷ 0x0A ∷ 0 ∷ 0x1F ∷ 1 ∷ 0x00 ∷ 16 ∷ 0x01 ∷ []))
+    ∷ refuses joined (feedback (2 ∷ 0x0A ∷ 16 ∷ 0x0A ∷ [])) 10
+    ∷ refuses joined (feedback (16 ∷ 0x0A ∷ 2 ∷ 0x0A ∷ [])) 10
+    ∷ refuses joined (feedback (16 ∷ 0x0A ∷ 0 ∷ 0x0A ∷ 2 ∷ 0x0A ∷ [])) 10
+    ∷ offers joined (feedback (2 ∷ 0x0A ∷ 16 ∷ 0x20 ∷ [])) (refused 7 6)
+    ∷ hands joined (feedback (16 ∷ 0x0A ∷ [])) 0 (refused 17 0)
+    ∷ hands joined (feedback (2 ∷ 0x0A ∷ [])) 0 (refused 10 0)
+    ∷ knows (joined ++ (feedback (16 ∷ 0x04 ∷ []) ∷ [])) 16 (present 0x26 (Virtual 0 1))
+    ∷ []
+
 -- 13 at the seventeenth; none after a detachment
 abbrev sixteenPorts : List Example
 sixteenPorts =
@@ -386,9 +445,19 @@ inState state = record { formats = λ mode. none; answered = none; asked = none;
 abbrev ValueExperiments : Type 0
 ValueExperiments = map (λ state. valueExperiment (inState state)) (0 ∷ 1 ∷ 2 ∷ 3 ∷ []) ≡ 0 ∷ 0 ∷ 7 ∷ 0 ∷ []
 
--- a disconnection of an absent port, an unjoined one, a joined one and a virtual one
+-- a disconnection of an absent port, an unjoined one, a joined one and a virtual one; and a command to each of them
+abbrev oneOfEach : List (Option Facts)
+oneOfEach = none ∷ some (bare 0x26 Unjoined) ∷ some (bare 0x26 (Joined 16)) ∷ some (bare 0x26 (Virtual 0 1)) ∷ []
+
 abbrev Disconnections : Type 0
-Disconnections = map judgeDisconnect (none ∷ some (bare 0x26 Unjoined) ∷ some (bare 0x26 (Joined 16)) ∷ some (bare 0x26 (Virtual 0 1)) ∷ []) ≡ 10 ∷ 12 ∷ 12 ∷ 0 ∷ []
+Disconnections = map (refusalUnlessVirtual 12) oneOfEach ≡ 10 ∷ 12 ∷ 12 ∷ 0 ∷ []
+
+abbrev Commands : Type 0
+Commands = map (refusalUnlessVirtual 22) oneOfEach ≡ 10 ∷ 22 ∷ 22 ∷ 0 ∷ []
+
+-- the ports of three pairs
+abbrev PortsOfPairs : Type 0
+PortsOfPairs = portsNamed (16 ∷ 0x0A ∷ 0 ∷ 0x01 ∷ 7 ∷ 0x02 ∷ []) ≡ 16 ∷ 0 ∷ 7 ∷ []
 
 -- what was said is what was wanted, row by row
 abbrev Hold : List Example → Type 0
@@ -403,11 +472,15 @@ ExamplesHold =
     × PortsInOrder
     × ValueExperiments
     × Disconnections
+    × Commands
+    × PortsOfPairs
     × Hold theLog
     × Hold states
     × Hold experiments
     × Hold attachments
     × Hold pairs
+    × Hold commands
+    × Hold feedbacks
     × Hold sixteenPorts
     × Hold readings
     × Hold datasets

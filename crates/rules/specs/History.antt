@@ -6,7 +6,7 @@ use mathlib.Core.List.{List, [], _∷_}
 use mathlib.Core.Option.{Option, none, some}
 use lib.Dec.{eqb, leb}
 use Rattle.rules.specs.Layout.{portCount}
-use Rattle.rules.specs.Effect.{Change, Effect, Nothing, ToPort, Attach, AttachVirtual, Detach, Value, Disconnect, Connect, Empty}
+use Rattle.rules.specs.Effect.{Change, Effect, Nothing, ToPort, Attach, AttachVirtual, Detach, Value, Disconnect, Connect, Empty, ToVirtual, Feedback}
 use Rattle.rules.specs.Facts.{Wiring, Unjoined, Joined, Virtual, Facts, View, Modes, Ports, modeIn, known}
 use Rattle.rules.specs.Latest.{latest, answer, settingsOf}
 
@@ -49,6 +49,8 @@ sinceAttached port (Value p ∷ h) = sinceAttached port h
 sinceAttached port (Disconnect p ∷ h) = sinceAttached port h
 sinceAttached port (Connect a b ∷ h) = sinceAttached port h
 sinceAttached port (Empty ∷ h) = absent
+sinceAttached port (ToVirtual p ∷ h) = sinceAttached port h
+sinceAttached port (Feedback ∷ h) = sinceAttached port h
 
 -- document 01's partner of a joined port: the virtual port that is present and names it, looked for below a number
 abbrev pub isPartner : ℕ → Since → Bool

@@ -1,10 +1,12 @@
--- Judging a message on what is known of the ports: refusals 10 to 16 in the order of document 01, 0 where it is accepted.
--- Their place is 0.
+-- Judging a message on what is known of the ports: refusals 10 to 16 in the order of document 01, and 22 after 10; 0 where it is
+-- accepted. Their place is 0.
 use Prim.Native.Nat.{ℕ, _*_}
-use mathlib.Core.Bool.{Bool, false, cond, not, _&&_}
+use mathlib.Core.Bool.{Bool, true, false, cond, not, _&&_}
+use mathlib.Core.List.{List, [], _∷_}
 use mathlib.Core.Option.{Option, none, some}
 use lib.Dec.{eqb}
-use Rattle.rules.specs.Effect.{Effect, Nothing, ToPort, Attach, AttachVirtual, Detach, Value, Disconnect, Connect, Empty}
+use lib.ListN.{length}
+use Rattle.rules.specs.Effect.{Effect, Nothing, ToPort, Attach, AttachVirtual, Detach, Value, Disconnect, Connect, Empty, ToVirtual, Feedback}
 use Rattle.rules.specs.Facts.{Format, Facts, View, Ports, known, isUnjoined, isVirtual}
 use Rattle.rules.specs.ValueLookup.{ValueLookup, Found, Refused, valueLookup}
 
@@ -41,19 +43,31 @@ abbrev pub judgeValue : ValueLookup → ℕ → ℕ
 judgeValue (Refused n) count = n
 judgeValue (Found mode state experiment f) count = sizeRefusal f count
 
--- 10, then 12 for a physical port
-abbrev pub judgeDisconnect : Option Facts → ℕ
-judgeDisconnect none = 10
-judgeDisconnect (some f) = cond (isVirtual (f .wiring)) 0 12
+-- 10, then a refusal for a physical port, joined or not: 12 of a disconnection, 22 of a command
+abbrev pub refusalUnlessVirtual : ℕ → Option Facts → ℕ
+refusalUnlessVirtual refusal none = 10
+refusalUnlessVirtual refusal (some f) = cond (isVirtual (f .wiring)) 0 refusal
 
--- a message, by what it is to a table and the number of its open bytes
-unfoldable pub judge : Ports → Effect → ℕ → ℕ
-judge ports Nothing count = 0
-judge ports (ToPort port c) count = refusalIfAbsent (ports .view) port
-judge ports (Attach port device) count = cond (present (ports .view) port) 11 (refusalIfFull (ports .full))
-judge ports (AttachVirtual port device a b) count = cond (present (ports .view) port) 11 (cond (pairTest (ports .view) a b) (refusalIfFull (ports .full)) 12)
-judge ports (Detach port) count = refusalIfAbsent (ports .view) port
-judge ports (Value port) count = judgeValue (valueLookup ports port) count
-judge ports (Disconnect port) count = judgeDisconnect (ports .view port)
-judge ports (Connect a b) count = cond (pairTest (ports .view) a b) 0 12
-judge ports Empty count = 0
+-- the ports that an 82 names: the first byte of each pair
+abbrev pub portsNamed : List ℕ → List ℕ
+portsNamed [] = []
+portsNamed (port ∷ []) = port ∷ []
+portsNamed (port ∷ feedback ∷ pairs) = port ∷ portsNamed pairs
+
+abbrev pub allPresent : View → List ℕ → Bool
+allPresent view [] = true
+allPresent view (port ∷ ports) = present view port && allPresent view ports
+
+-- a message, by what it is to a table and its open bytes
+unfoldable pub judge : Ports → Effect → List ℕ → ℕ
+judge ports Nothing opens = 0
+judge ports (ToPort port c) opens = refusalIfAbsent (ports .view) port
+judge ports (Attach port device) opens = cond (present (ports .view) port) 11 (refusalIfFull (ports .full))
+judge ports (AttachVirtual port device a b) opens = cond (present (ports .view) port) 11 (cond (pairTest (ports .view) a b) (refusalIfFull (ports .full)) 12)
+judge ports (Detach port) opens = refusalIfAbsent (ports .view) port
+judge ports (Value port) opens = judgeValue (valueLookup ports port) (length opens)
+judge ports (Disconnect port) opens = refusalUnlessVirtual 12 (ports .view port)
+judge ports (Connect a b) opens = cond (pairTest (ports .view) a b) 0 12
+judge ports Empty opens = 0
+judge ports (ToVirtual port) opens = refusalUnlessVirtual 22 (ports .view port)
+judge ports Feedback opens = cond (allPresent (ports .view) (portsNamed opens)) 0 10

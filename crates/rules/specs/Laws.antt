@@ -13,7 +13,7 @@ use Rattle.rules.specs.Table.{Record, Table, fullTable, insert, remove}
 use Rattle.rules.specs.Layout.{stride}
 use Rattle.rules.specs.Answer.{Answer, refused, accepted, outcome}
 use Rattle.rules.specs.Cells.{placeCells, tableAt, sound, emptyCells}
-use Rattle.rules.specs.Effect.{Change, Unchanged, Formatted, Answered, Asked, Effect, Nothing, ToPort, Attach, AttachVirtual, Detach, Value, Disconnect, Connect, Empty}
+use Rattle.rules.specs.Effect.{Change, Unchanged, Formatted, Answered, Asked, Effect, Nothing, ToPort, Attach, AttachVirtual, Detach, Value, Disconnect, Connect, Empty, ToVirtual, Feedback}
 use Rattle.rules.specs.Dataset.{Dataset}
 use Rattle.rules.specs.Offer.{Entry, offerByCells, cellsAfter, datasetByCells, valuesByCells}
 use Rattle.rules.specs.Demand3.{EntryFits}
@@ -65,6 +65,8 @@ isAsking (Value port) = false
 isAsking (Disconnect port) = false
 isAsking (Connect a b) = false
 isAsking Empty = false
+isAsking (ToVirtual port) = false
+isAsking Feedback = false
 
 abbrev pub acceptedAsking : Answer Effect → Bool
 acceptedAsking (refused n place) = false

@@ -14,6 +14,7 @@ pub mod Table
 pub mod WellFormed
 pub mod Ranges
 pub mod Cells
+pub mod OpenBytes
 pub mod Offer
 pub mod Demand3
 pub mod Examples

@@ -3,7 +3,6 @@
 use Prim.Native.Nat.{ℕ}
 use mathlib.Core.Bool.{cond}
 use mathlib.Core.List.{List, [], _∷_}
-use lib.ListN.{length}
 use Rattle.protocol.specs.Decode as Decode
 use Rattle.protocol.specs.Decode.{decode, openOf}
 use Rattle.protocol.specs.Answer.{messageOf}
@@ -24,12 +23,12 @@ pub record Entry : Type 0 where
   pub bytes : List ℕ
   pub experiment : ℕ
 
--- what an accepted message is to a table; reading comes first, then 10 to 16
+-- what an accepted message is to a table; reading comes first, then 10 to 16 and 22
 abbrev pub judgeReading : Ports → List ℕ → ℕ → Decode.Answer → Answer Effect
 judgeReading ports s experiment (Decode.refused n place) = refused n place
 judgeReading ports s experiment (Decode.accepted f vs) =
     let e = effectOf experiment (messageOf f vs) in
-    unlessRefused (judge ports e (length (openOf s (Decode.accepted f vs)))) (accepted e)
+    unlessRefused (judge ports e (openOf s (Decode.accepted f vs))) (accepted e)
 
 unfoldable pub judgeEntry : Ports → Entry → Answer Effect
 judgeEntry ports e = judgeReading ports (e .bytes) (e .experiment) (decode (e .way) (e .bytes))

@@ -4,7 +4,7 @@ use mathlib.Core.Option.{some}
 use lib.Dec.{leb, ltb}
 use Rattle.protocol.specs.Form.{lastMode}
 use Rattle.rules.specs.Layout.{portCount, experimentCount}
-use Rattle.rules.specs.Effect.{Change, Unchanged, Formatted, Answered, Asked, Effect, Nothing, ToPort, Attach, AttachVirtual, Detach, Value, Disconnect, Connect, Empty}
+use Rattle.rules.specs.Effect.{Change, Unchanged, Formatted, Answered, Asked, Effect, Nothing, ToPort, Attach, AttachVirtual, Detach, Value, Disconnect, Connect, Empty, ToVirtual, Feedback}
 use Rattle.rules.specs.WellFormed.{setupFits, formatFits}
 
 abbrev pub changeFits : Change → Bool
@@ -23,3 +23,5 @@ effectFits (Value port) = true
 effectFits (Disconnect port) = true
 effectFits (Connect a b) = true
 effectFits Empty = true
+effectFits (ToVirtual port) = true
+effectFits Feedback = true

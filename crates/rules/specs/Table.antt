@@ -4,7 +4,7 @@ use mathlib.Core.Bool.{Bool, true, false, cond}
 use mathlib.Core.List.{List, [], _∷_, map}
 use mathlib.Core.Option.{Option, none, some}
 use lib.Dec.{eqb}
-use Rattle.rules.specs.Effect.{Effect, Nothing, ToPort, Attach, AttachVirtual, Detach, Value, Disconnect, Connect, Empty}
+use Rattle.rules.specs.Effect.{Effect, Nothing, ToPort, Attach, AttachVirtual, Detach, Value, Disconnect, Connect, Empty, ToVirtual, Feedback}
 use Rattle.rules.specs.Facts.{Settings, Wiring, Unjoined, Joined, Virtual, Facts, View, Modes, Ports, modeIn}
 use Rattle.rules.specs.Learn.{bareSettings, learn}
 
@@ -104,3 +104,5 @@ apply (Value port) t = t
 apply (Disconnect port) t = t
 apply (Connect a b) t = t
 apply Empty t = map freed t
+apply (ToVirtual port) t = t
+apply Feedback t = t

@@ -27,7 +27,8 @@ pub enum Wiring {
 
 // What a message tells a port, which has to be present.
 pub enum Change {
-    // 0x21, 0x22, 0x43, and a 0x44 with another information type than 0x80: nothing that is kept.
+    // 0x21, 0x22, 0x43, a 0x44 with another information type than 0x80, and a 0x81 with sub command
+    // 0x0D: nothing that is kept.
     Unchanged,
     // 0x44, information type 0x80
     Formatted { mode: u8, format: Format },
@@ -76,6 +77,12 @@ pub enum Effect {
     },
     // 0x02 up, 0x30 to 0x32
     Empty,
+    // 0x81, sub commands 0x0C, 0x0E and 0x14: nothing that is kept, and for a virtual port only.
+    ToVirtual {
+        port: u8,
+    },
+    // 0x82: nothing that is kept; the ports named are among the open bytes.
+    Feedback,
 }
 
 // What a value of a port is read by: the mode that the hub last answered, the port's state, the experiment number that the
