@@ -2,9 +2,9 @@
 use mathlib.Core.Path.{refl}
 use lib.Ieee.{ofBits, toBits}
 use Rattle.protocol.specs.Decode.{decode, decodeWay, decodeType, decodeForm}
-use Rattle.protocol.specs.Form.{layout}
+use Rattle.protocol.specs.Form.{layout, startByte, endState, feedback}
 use Rattle.protocol.specs.Number.{littleEndian, bigEndian}
-use Rattle.protocol.specs.Types.{types, hubAttachedIo, portModeInformation}
+use Rattle.protocol.specs.Types.{types, hubAttachedIo, portModeInformation, portOutputCommand}
 use Rattle.rules.specs.Effect.{effectOf}
 use Rattle.rules.specs.ValueLookup.{valueLookup}
 use Rattle.rules.specs.Judge.{judge}
@@ -19,7 +19,7 @@ use Rattle.log.specs.Decimal.{decimal}
 use Rattle.log.specs.Record.{messageIn, experimentIn, malformed}
 use Rattle.log.specs.Line.{valueLine, recordLine, cellsAfterRecord}
 use Rattle.log.specs.Output.{allLines, totalText, output}
-use Rattle.log.specs.Examples.{RecordExperiment, SignedText, ValuesLine, SixRecords, OtherRecords, SignedRecords, EmptyInput}
+use Rattle.log.specs.Examples.{RecordExperiment, SignedText, ValuesLine, SixRecords, OtherRecords, SignedRecords, MotorRecords, EmptyInput}
 
 pub record-experiment : RecordExperiment
 unfolding littleEndian bigEndian experimentIn
@@ -43,6 +43,10 @@ other-records = refl
 pub signed-records : SignedRecords
 unfolding decode decodeWay decodeType decodeForm layout littleEndian ofBits toBits types hubAttachedIo portModeInformation effectOf valueLookup judge datasetOf datasetAnswer learn apply wellFormed recordCells cellsOf recordAt tableAt sound emptyCells judgeEntry datasetMessage offerByCells cellsAfter datasetByCells decimal messageIn experimentIn malformed allDatasets valueLine recordLine cellsAfterRecord allLines totalText output
 signed-records = refl
+
+pub motor-records : MotorRecords
+unfolding decode decodeWay decodeType decodeForm layout startByte endState feedback littleEndian types hubAttachedIo portOutputCommand effectOf judge datasetOf datasetAnswer learn apply wellFormed recordCells cellsOf recordAt tableAt sound emptyCells judgeEntry datasetMessage offerByCells cellsAfter datasetByCells decimal messageIn experimentIn malformed allDatasets valueLine recordLine cellsAfterRecord allLines totalText output
+motor-records = refl
 
 pub empty-input : EmptyInput
 unfolding decimal allLines totalText output

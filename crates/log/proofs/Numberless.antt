@@ -42,6 +42,8 @@ accepted-zero dataset e (Effect'.Value port) = with-zero (dataset 0) e (allDatas
 accepted-zero dataset e (Effect'.Disconnect port) = refl
 accepted-zero dataset e (Effect'.Connect a b) = refl
 accepted-zero dataset e Effect'.Empty = refl
+accepted-zero dataset e (Effect'.ToVirtual port) = refl
+accepted-zero dataset e Effect'.Feedback = refl
 
 answer-zero : (dataset : ℕ → Answer Dataset) → datasetExperiment (dataset 0) ≡ 0 → (a : Answer Effect) → lineExperiment (answerLine dataset a) ≡ 0
 answer-zero dataset e (Answer.refused n place) = refl

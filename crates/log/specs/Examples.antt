@@ -1,5 +1,5 @@
 -- Document 01's six records print exactly its seven lines; a log with two experiments, a malformed record and a short last
--- piece; and a log with numbers below 0.
+-- piece; a log with numbers below 0; and one with motor commands.
 use Prim.Native.Nat.{ℕ, _-_}
 use mathlib.Core.Path.{_≡_}
 use mathlib.Core.List.{List, [], _∷_, _++_}
@@ -113,6 +113,39 @@ signedLines =
 
 abbrev pub SignedRecords : Type 0
 SignedRecords = output 128 signedRecords ≡ signedLines
+
+-- two motors; a command to port 16 before they are joined to it, and after; the same to port 0, and 0D to port 0; feedback of port 16,
+-- with that of a port that is not present, and a feedback of 32
+abbrev motorRecords : List ℕ
+motorRecords =
+    recordOf 1 (0x0F ∷ 0x00 ∷ 0x04 ∷ 0x00 ∷ 0x01 ∷ 0x26 ∷ 0x00 ∷ 0x00 ∷ 0x00 ∷ 0x00 ∷ 0x10 ∷ 0x00 ∷ 0x00 ∷ 0x00 ∷ 0x10 ∷ [])
+    ++ recordOf 1 (0x0F ∷ 0x00 ∷ 0x04 ∷ 0x01 ∷ 0x01 ∷ 0x26 ∷ 0x00 ∷ 0x00 ∷ 0x00 ∷ 0x00 ∷ 0x10 ∷ 0x00 ∷ 0x00 ∷ 0x00 ∷ 0x10 ∷ [])
+    ++ recordOf 0 (0x12 ∷ 0x00 ∷ 0x81 ∷ 0x10 ∷ 0x11 ∷ 0x0E ∷ 0x5A ∷ 0x00 ∷ 0x00 ∷ 0x00 ∷ 0xA6 ∷ 0xFF ∷ 0xFF ∷ 0xFF ∷ 0x32 ∷ 0x64 ∷ 0x7F ∷ 0x03 ∷ [])
+    ++ recordOf 1 (0x09 ∷ 0x00 ∷ 0x04 ∷ 0x10 ∷ 0x02 ∷ 0x26 ∷ 0x00 ∷ 0x00 ∷ 0x01 ∷ [])
+    ++ recordOf 0 (0x12 ∷ 0x00 ∷ 0x81 ∷ 0x10 ∷ 0x11 ∷ 0x0E ∷ 0x5A ∷ 0x00 ∷ 0x00 ∷ 0x00 ∷ 0xA6 ∷ 0xFF ∷ 0xFF ∷ 0xFF ∷ 0x32 ∷ 0x64 ∷ 0x7F ∷ 0x03 ∷ [])
+    ++ recordOf 0 (0x12 ∷ 0x00 ∷ 0x81 ∷ 0x00 ∷ 0x11 ∷ 0x0E ∷ 0x5A ∷ 0x00 ∷ 0x00 ∷ 0x00 ∷ 0xA6 ∷ 0xFF ∷ 0xFF ∷ 0xFF ∷ 0x32 ∷ 0x64 ∷ 0x7F ∷ 0x03 ∷ [])
+    ++ recordOf 0 (0x0E ∷ 0x00 ∷ 0x81 ∷ 0x00 ∷ 0x11 ∷ 0x0D ∷ 0x5A ∷ 0x00 ∷ 0x00 ∷ 0x00 ∷ 0x32 ∷ 0x64 ∷ 0x7F ∷ 0x03 ∷ [])
+    ++ recordOf 1 (0x05 ∷ 0x00 ∷ 0x82 ∷ 0x10 ∷ 0x0A ∷ [])
+    ++ recordOf 1 (0x07 ∷ 0x00 ∷ 0x82 ∷ 0x10 ∷ 0x0A ∷ 0x02 ∷ 0x0A ∷ [])
+    ++ recordOf 1 (0x05 ∷ 0x00 ∷ 0x82 ∷ 0x02 ∷ 0x20 ∷ [])
+
+-- "1 0", "2 0", "3 10", "4 0", "5 0", "6 22", "7 0", "8 0", "9 10", "10 7", "total 10 refused 4"
+abbrev motorLines : List ℕ
+motorLines =
+    49 ∷ 32 ∷ 48 ∷ 10
+    ∷ 50 ∷ 32 ∷ 48 ∷ 10
+    ∷ 51 ∷ 32 ∷ 49 ∷ 48 ∷ 10
+    ∷ 52 ∷ 32 ∷ 48 ∷ 10
+    ∷ 53 ∷ 32 ∷ 48 ∷ 10
+    ∷ 54 ∷ 32 ∷ 50 ∷ 50 ∷ 10
+    ∷ 55 ∷ 32 ∷ 48 ∷ 10
+    ∷ 56 ∷ 32 ∷ 48 ∷ 10
+    ∷ 57 ∷ 32 ∷ 49 ∷ 48 ∷ 10
+    ∷ 49 ∷ 48 ∷ 32 ∷ 55 ∷ 10
+    ∷ 116 ∷ 111 ∷ 116 ∷ 97 ∷ 108 ∷ 32 ∷ 49 ∷ 48 ∷ 32 ∷ 114 ∷ 101 ∷ 102 ∷ 117 ∷ 115 ∷ 101 ∷ 100 ∷ 32 ∷ 52 ∷ 10 ∷ []
+
+abbrev pub MotorRecords : Type 0
+MotorRecords = output 128 motorRecords ≡ motorLines
 
 -- the longest number of 32 bits, "-2147483648"; 0 has no sign
 abbrev pub SignedText : Type 0

@@ -51,6 +51,8 @@ acceptedLine dataset (Effect'.Value port) = valueLine dataset
 acceptedLine dataset (Effect'.Disconnect port) = accepted
 acceptedLine dataset (Effect'.Connect a b) = accepted
 acceptedLine dataset Effect'.Empty = accepted
+acceptedLine dataset (Effect'.ToVirtual port) = accepted
+acceptedLine dataset Effect'.Feedback = accepted
 
 abbrev pub answerLine : (ℕ → Answer Dataset) → Answer Effect → Line
 answerLine dataset (Answer.refused n place) = refused n

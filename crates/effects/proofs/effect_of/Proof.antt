@@ -51,6 +51,11 @@ nothing-told experiment (Message'.PortValue p) t = absurd (miss others 29 tt t)
 nothing-told experiment (Message'.InputFormat p m d n) t = absurd (miss others 30 tt t)
 nothing-told experiment (Message'.VirtualDisconnect p) t = absurd (miss others 31 tt t)
 nothing-told experiment (Message'.VirtualConnect a b) t = absurd (miss others 32 tt t)
+nothing-told experiment (Message'.StartSpeedForDegrees p s d l r w e u) t = absurd (miss others 33 tt t)
+nothing-told experiment (Message'.GotoAbsolutePosition p s a v w e u) t = absurd (miss others 34 tt t)
+nothing-told experiment (Message'.GotoAbsolutePositions p s a b v w e u) t = absurd (miss others 35 tt t)
+nothing-told experiment (Message'.PresetEncoders p s l r) t = absurd (miss others 36 tt t)
+nothing-told experiment Message'.OutputFeedback t = absurd (miss others 37 tt t)
 
 enum-known-m : tie.Need-enum-known-m
 enum-known-m c = search needs
@@ -111,6 +116,21 @@ enum-known-m-18 c = search needs
 
 enum-known-m-19 : tie.Need-enum-known-m-19
 enum-known-m-19 c = search needs
+
+enum-known-m-20 : tie.Need-enum-known-m-20
+enum-known-m-20 c = search needs
+
+enum-known-m-21 : tie.Need-enum-known-m-21
+enum-known-m-21 c = search needs
+
+enum-known-m-22 : tie.Need-enum-known-m-22
+enum-known-m-22 c = search needs
+
+enum-known-m-23 : tie.Need-enum-known-m-23
+enum-known-m-23 c = search needs
+
+enum-told : tie.Need-enum-told
+enum-told c = search needs
 
 returns : tie.Need-returns
 unfolding effectOf
@@ -189,7 +209,27 @@ unfolding effectOf
 returns-19 c = sym (ap (effectOf (c .before .before .before .args .experiment)) (c .before .m19 .given .1))
 
 returns-20 : tie.Need-returns-20
-returns-20 c = sym (nothing-told (c .before .args .experiment) (c .before .args .m) (c .match .keys20))
+unfolding effectOf
+returns-20 c = sym (ap (effectOf (c .before .before .before .args .experiment)) (c .before .m20 .given .1))
+
+returns-21 : tie.Need-returns-21
+unfolding effectOf
+returns-21 c = sym (ap (effectOf (c .before .before .before .args .experiment)) (c .before .m21 .given .1))
+
+returns-22 : tie.Need-returns-22
+unfolding effectOf
+returns-22 c = sym (ap (effectOf (c .before .before .before .args .experiment)) (c .before .m22 .given .1))
+
+returns-23 : tie.Need-returns-23
+unfolding effectOf
+returns-23 c = sym (ap (effectOf (c .before .before .before .args .experiment)) (c .before .m23 .given .1))
+
+returns-24 : tie.Need-returns-24
+unfolding effectOf
+returns-24 c = sym (ap (effectOf (c .before .before .args .experiment)) (c .enum-told .given .1))
+
+returns-25 : tie.Need-returns-25
+returns-25 c = sym (nothing-told (c .before .args .experiment) (c .before .args .m) (c .match .keys25))
 
 pub effect-of-spec : {M : Type 1} → statement M
 effect-of-spec =
@@ -215,6 +255,11 @@ effect-of-spec =
     enum-known-m-17
     enum-known-m-18
     enum-known-m-19
+    enum-known-m-20
+    enum-known-m-21
+    enum-known-m-22
+    enum-known-m-23
+    enum-told
     returns
     returns-2
     returns-3
@@ -234,4 +279,9 @@ effect-of-spec =
     returns-17
     returns-18
     returns-19
-    returns-20)
+    returns-20
+    returns-21
+    returns-22
+    returns-23
+    returns-24
+    returns-25)
