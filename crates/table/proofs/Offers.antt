@@ -5,7 +5,7 @@ use mathlib.Core.Bool.{Bool, true, false, cond}
 use mathlib.Core.List.{List, [], _∷_}
 use types.Run.{OneOf, miss}
 use denote.Enum.Declared.{tagOf}
-use lib.ListN.{length, drop}
+use lib.ListN.{length}
 use Rattle.protocol.specs.Number.{Bytes}
 use Rattle.protocol.specs.Decode as Decode
 use Rattle.protocol.specs.Decode.{decode, openOf}
@@ -36,9 +36,9 @@ use borrow.Author.Tests.{eq-eqb, ne-eqb, lt-ltb}
 
 -- ---- what judging says of the table
 
-module _ (cells : List ℕ) (count : ℕ) (e : Effect) (good : refusalBy cells e count ≡ 0) where
-  by : (case : Effect) → e ≡ case → refusalBy cells case count ≡ 0
-  by case is = sym (ap (λ (x : Effect). refusalBy cells x count) is) ∙ good
+module _ (cells s : List ℕ) (e : Effect) (good : refusalBy cells e s ≡ 0) where
+  by : (case : Effect) → e ≡ case → refusalBy cells case s ≡ 0
+  by case is = sym (ap (λ (x : Effect). refusalBy cells x s) is) ∙ good
 
   pub tell-ready : (port : ℕ) (c : Change) → e ≡ Case.ToPort port c → known (viewOfCells cells port) ≡ true
   unfolding judge
@@ -69,7 +69,7 @@ changed-as cells out e case is k = k ∙ sym (ap (λ (x : Effect). cellsOf (appl
 
 -- the effects by which nothing changes, by their tags
 abbrev others : List ℕ
-others = 0 ∷ 5 ∷ 6 ∷ 7 ∷ []
+others = 0 ∷ 5 ∷ 6 ∷ 7 ∷ 9 ∷ 10 ∷ []
 
 stays : (cells : List ℕ) (e : Effect) → OneOf others (tagOf the-type e) → apply e (tableAt cells) ≡ tableAt cells
 unfolding apply
@@ -82,6 +82,8 @@ stays cells (Case.Value p) t = refl
 stays cells (Case.Disconnect p) t = refl
 stays cells (Case.Connect a b) t = refl
 stays cells Case.Empty t = absurd (miss others 8 tt t)
+stays cells (Case.ToVirtual p) t = refl
+stays cells Case.Feedback t = refl
 
 pub unchanged : (cells : List ℕ) (e : Effect) → sound cells ≡ true → OneOf others (tagOf the-type e) → cells ≡ cellsOf (apply e (tableAt cells))
 unchanged cells e s t = sound-is cells s .0 ∙ sym (ap cellsOf (stays cells e t))
@@ -100,15 +102,15 @@ module _ (cells s : List ℕ) (way : Way) (experiment : ℕ) (good : sound cells
   unfolding judgeEntry
   offered-unread n place e = offer-sound cells entry good ∙ ap (judgeReading (portsOfCells cells) s experiment) e
 
-  pub offered-message : (m : Message) (e : Effect) (tail : List ℕ) → decode way s ≡ Decode.accepted (formOf m) (valuesOf m) → e ≡ effectOf experiment m → tail ≡ drop 4 s → offerByCells cells entry ≡ judgedBy cells e (length tail)
+  pub offered-message : (m : Message) (e : Effect) → decode way s ≡ Decode.accepted (formOf m) (valuesOf m) → e ≡ effectOf experiment m → offerByCells cells entry ≡ judgedBy cells e s
   unfolding judgeEntry
-  offered-message m e tail read is rest =
+  offered-message m e read is =
       let ports = portsOfCells cells in
       offer-sound cells entry good
       ∙ ap (judgeReading ports s experiment) read
-      ∙ ap (λ (x : Message). unlessRefused (judge ports (effectOf experiment x) (length (openOf s (Decode.accepted (formOf m) (valuesOf m))))) (accepted (effectOf experiment x))) (message-back m)
+      ∙ ap (λ (x : Message). unlessRefused (judge ports (effectOf experiment x) (openOf s (Decode.accepted (formOf m) (valuesOf m)))) (accepted (effectOf experiment x))) (message-back m)
       ∙ ap (λ (n : ℕ). unlessRefused n (accepted (effectOf experiment m))) (open-alike experiment m s .judges ports)
-      ∙ (λ i. unlessRefused (judge ports (sym is i) (length (sym rest i))) (accepted (sym is i)))
+      ∙ ap (λ (x : Effect). judgedBy cells x s) (sym is)
 
   pub cells-by : (v : Answer Effect) → offerByCells cells entry ≡ v → cellsAfter cells entry ≡ appliedTo cells v
   unfolding cellsAfter

@@ -3,12 +3,13 @@ use Prim.Native.Nat.{ℕ}
 use mathlib.Core.List.{List}
 use Rattle.rules.specs.Answer.{Answer, accepted, unlessRefused}
 use Rattle.rules.specs.Judge.{judge}
+use Rattle.rules.specs.OpenBytes.{opensIn}
 use Rattle.rules.specs.Offer.{portsOfCells}
 use Rattle.rules.specs.declared.Effect.{Effect}
 
--- its refusal, 0 where it is accepted, by the number of its open bytes
-abbrev pub refusalBy : List ℕ → Effect → ℕ → ℕ
-refusalBy cells e count = judge (portsOfCells cells) e count
+-- its refusal, 0 where it is accepted, by its bytes
+abbrev pub refusalBy : List ℕ → Effect → List ℕ → ℕ
+refusalBy cells e s = judge (portsOfCells cells) e (opensIn e s)
 
-abbrev pub judgedBy : List ℕ → Effect → ℕ → Answer Effect
-judgedBy cells e count = unlessRefused (refusalBy cells e count) (accepted e)
+abbrev pub judgedBy : List ℕ → Effect → List ℕ → Answer Effect
+judgedBy cells e s = unlessRefused (refusalBy cells e s) (accepted e)

@@ -5,7 +5,6 @@ use crate::step::attach_virtual;
 use crate::step::detach;
 use crate::step::tell;
 use codec::read;
-use codec::tail;
 use effects::effect_of;
 use protocol::Reading;
 use protocol::Way;
@@ -28,8 +27,8 @@ pub enum Outcome {
 }
 
 // What an accepted message changes.
-fn follow(table: &mut [u32], e: Effect, count: usize)
-    requires { ⌜ (sound (now table) ≡ true) × (effectFits e ≡ true) × (refusalBy (now table) e count ≡ 0) ⌝ }
+fn follow(table: &mut [u32], e: Effect, message: &[u8])
+    requires { ⌜ (sound (now table) ≡ true) × (effectFits e ≡ true) × (refusalBy (now table) e (now message) ≡ 0) ⌝ }
     ensures { λ _. ⌜ now (table .exit) ≡ cellsOf (apply e (tableAt (now (table .entry)))) ⌝ }
 {
     match e {
@@ -47,19 +46,19 @@ fn follow(table: &mut [u32], e: Effect, count: usize)
     }
 }
 
-// A message that reading accepts, with so many bytes from the fourth on.
-pub(crate) fn offer_effect(table: &mut [u32], e: Effect, count: usize) -> Outcome
+// A message that reading accepts, by what it is to the table and its bytes.
+pub(crate) fn offer_effect(table: &mut [u32], e: Effect, message: &[u8]) -> Outcome
     requires { ⌜ (sound (now table) ≡ true) × (effectFits e ≡ true) ⌝ }
-    ensures { λ r. ⌜ (answerOf r ≡ outcome (judgedBy (now (table .entry)) e count)) × (now (table .exit) ≡ appliedTo (now (table .entry)) (judgedBy (now (table .entry)) e count)) ⌝ }
+    ensures { λ r. ⌜ (answerOf r ≡ outcome (judgedBy (now (table .entry)) e (now (message .entry)))) × (now (table .exit) ≡ appliedTo (now (table .entry)) (judgedBy (now (table .entry)) e (now (message .entry)))) ⌝ }
 {
-    let refusal = judged(table, e, count);
+    let refusal = judged(table, e, message);
     if refusal != 0 {
         return Outcome::Refused {
             number: refusal,
             place: 0,
         };
     }
-    follow(table, e, count);
+    follow(table, e, message);
     Outcome::Accepted
 }
 
@@ -69,11 +68,7 @@ pub(crate) fn offer_sound(table: &mut [u32], message: &[u8], way: Way, experimen
     ensures { λ r. ⌜ (answerOf r ≡ outcome (offerByCells (now (table .entry)) (record { way = way; bytes = now (message .entry); experiment = experiment }))) × (now (table .exit) ≡ cellsAfter (now (table .entry)) (record { way = way; bytes = now (message .entry); experiment = experiment })) ⌝ }
 {
     match read(message, way) {
-        Reading::Accepted(m) => offer_effect(
-            table,
-            effect_of(m, experiment),
-            tail(message, 4).len(),
-        ),
+        Reading::Accepted(m) => offer_effect(table, effect_of(m, experiment), message),
         Reading::Refused { number, place } => Outcome::Refused { number, place },
     }
 }

@@ -14,14 +14,14 @@ same-length c = search needs
 
 returns : tie.Need-returns
 returns c =
-    let a = c .before .before .before .before .args in
+    let a = c .before .before .before .before .before .args in
     let cells = a .table .now in
     let k = refused-by (c .before .judged .result) _ (accepted (a .e)) (c .before .judged .ensures) (c .if1 .taken) in
     (sym (ap outcome k), sym (ap (appliedTo cells) k))
 
 follow-requires : tie.Need-follow-requires
 follow-requires c κs =
-    let p = c .before .before .before .before .before .pre in
+    let p = c .before .before .before .before .before .before .pre in
     (p .0, p .1, sym (c .before .before .judged .ensures) ∙ c .before .if1 .left)
 
 same-length-2 : tie.Need-same-length-2
@@ -30,7 +30,7 @@ same-length-2 c = search needs
 returns-2 : tie.Need-returns-2
 returns-2 c =
     let judged = c .before .before .before .before .before .judged in
-    let a = c .before .before .before .before .before .before .before .before .args in
+    let a = c .before .before .before .before .before .before .before .before .before .args in
     let cells = a .table .now in
     let k = accepted-by (judged .result) _ (accepted (a .e)) (judged .ensures) (c .before .before .before .before .if1 .left) in
     (sym (ap outcome k), c .before .before .follow .ensures ∙ sym (ap (appliedTo cells) k))

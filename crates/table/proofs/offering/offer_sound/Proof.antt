@@ -18,16 +18,13 @@ enum-known-m c = search needs
 effect-of-requires : tie.Need-effect-of-requires
 effect-of-requires c κs = search needs
 
-tail-requires : tie.Need-tail-requires
-tail-requires c κs = search needs
-
 offer-effect-requires : tie.Need-offer-effect-requires
 offer-effect-requires c κs =
-    let p = c .before .before .before .before .before .before .before .before .before .pre in
-    let shared-slice-known = c .before .before .before .before .before .before .before .shared-slice-known in
-    let a = c .before .before .before .before .before .before .before .before .before .args in
+    let p = c .before .before .before .before .before .before .before .before .pre in
+    let shared-slice-known = c .before .before .before .before .before .before .shared-slice-known in
+    let a = c .before .before .before .before .before .before .before .before .args in
     let cells = a .table .now in
-    (p, fits-by (a .message .now) (a .way) (a .experiment) _ (c .before .effect-of .result) (all-bytes (a .message .now) (λ (k : ℕ). omega (arith, shared-slice-known .given k))) (omega (arith, c .before .before .before .before .before .before .before .before .before .good)) (sym (c .before .before .before .before .before .before .read .ensures) ∙ ap answerOf (c .before .before .before .before .m .given .1)) (c .before .effect-of .ensures))
+    (p, fits-by (a .message .now) (a .way) (a .experiment) _ (c .effect-of .result) (all-bytes (a .message .now) (λ (k : ℕ). omega (arith, shared-slice-known .given k))) (omega (arith, c .before .before .before .before .before .before .before .before .good)) (sym (c .before .before .before .before .before .read .ensures) ∙ ap answerOf (c .before .before .before .m .given .1)) (c .effect-of .ensures))
 
 enum-known-number : tie.Need-enum-known-number
 enum-known-number c = search needs
@@ -37,13 +34,13 @@ same-length c = search needs
 
 returns : tie.Need-returns
 returns c =
-    let p = c .before .before .before .before .before .before .before .before .before .before .before .before .pre in
-    let read = c .before .before .before .before .before .before .before .before .before .read in
-    let m = c .before .before .before .before .before .before .before .m in
-    let effect-of = c .before .before .before .before .effect-of in
-    let a = c .before .before .before .before .before .before .before .before .before .before .before .before .args in
+    let p = c .before .before .before .before .before .before .before .before .before .before .before .pre in
+    let read = c .before .before .before .before .before .before .before .before .read in
+    let m = c .before .before .before .before .before .before .m in
+    let effect-of = c .before .before .before .effect-of in
+    let a = c .before .before .before .before .before .before .before .before .before .before .before .args in
     let cells = a .table .now in
-    let k = offered-message cells (a .message .now) (a .way) (a .experiment) p _ (effect-of .result) _ (sym (read .ensures) ∙ ap answerOf (m .given .1)) (effect-of .ensures) (c .before .before .before .tail .ensures) in
+    let k = offered-message cells (a .message .now) (a .way) (a .experiment) p _ (effect-of .result) (sym (read .ensures) ∙ ap answerOf (m .given .1)) (effect-of .ensures) in
     (c .before .before .offer-effect .ensures .0 ∙ sym (ap outcome k), c .before .before .offer-effect .ensures .1 ∙ sym (cells-by cells (a .message .now) (a .way) (a .experiment) p _ k))
 
 returns-2 : tie.Need-returns-2
@@ -61,7 +58,6 @@ offer-sound-spec =
     read-requires
     enum-known-m
     effect-of-requires
-    tail-requires
     offer-effect-requires
     enum-known-number
     same-length
