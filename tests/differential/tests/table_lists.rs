@@ -134,8 +134,8 @@ fn unguided_lists() {
     tally.expect_whole([2, 3, 4, 5, 6, 7, 10, 17], 50);
 }
 
-/// Messages about three ports: the third may be virtual and is driven, and the first is set up. Each has an experiment number of its
-/// own, and the same 41 comes with two.
+/// Messages about three ports: the third may be virtual and is driven, and the first is set up. Each has an experiment
+/// number of its own, and the same 41 comes with two.
 const FEW: [(Way, &str, u16); 17] = [
     (Way::Up, "0F 00 04 00 01 26 00 00 00 00 10 00 00 00 10", 1),
     (Way::Up, "0F 00 04 01 01 27 00 00 00 00 10 00 00 00 10", 2),
