@@ -60,7 +60,7 @@ enum castanetash_refusal {
     CASTANETASH_REFUSED_FIELD = 7,         /* a field is outside its list */
     CASTANETASH_REFUSED_OUTPUT = 8,        /* the output is shorter than the message to be written */
     CASTANETASH_REFUSED_TABLE = 9,         /* the lent cells are no sound table */
-    CASTANETASH_REFUSED_PORT_ABSENT = 10,  /* the port named isn't present */
+    CASTANETASH_REFUSED_PORT_ABSENT = 10,  /* a port named isn't present */
     CASTANETASH_REFUSED_PORT_PRESENT = 11, /* an attached port is present already */
     CASTANETASH_REFUSED_PAIR = 12,         /* a bad pair: a member is absent, virtual or joined already, or both are the
                                               same; or a port to be disconnected is not virtual */
@@ -71,6 +71,7 @@ enum castanetash_refusal {
     CASTANETASH_REFUSED_NO_DATASET = 17,   /* no dataset of that number; any message but a value has none */
     CASTANETASH_REFUSED_NOT_FINITE = 18,   /* a float dataset is an infinity or a NaN */
     CASTANETASH_REFUSED_LOG_RECORD = 19,   /* a log's record is malformed: only in the text of castanetash_read_block */
+    CASTANETASH_REFUSED_NOT_VIRTUAL = 22,  /* a command for two motors to a port that is not virtual */
     CASTANETASH_REFUSED_READ_ONLY = 23,    /* castanetash_write is given a form that is read only */
     CASTANETASH_REFUSED_ROW = 255          /* a lent row is too short for the answer; or castanetash_write is given a
                                               row that is no message's own */
@@ -86,7 +87,8 @@ enum castanetash_refusal {
 
 enum castanetash_row {
     CASTANETASH_ROW_FORM = 0,       /* one of enum castanetash_form */
-    CASTANETASH_ROW_OPEN_START = 1, /* where the open bytes (a name, symbol, text or value) start in the message */
+    CASTANETASH_ROW_OPEN_START = 1, /* where the open bytes (a name, symbol, text or value, or pairs of port and
+                                       feedback) start in the message */
     CASTANETASH_ROW_OPEN_COUNT = 2, /* how many they are, 0 for most forms */
     CASTANETASH_ROW_COUNT = 3,      /* how many values the form has */
     CASTANETASH_ROW_VALUES = 4      /* the first value; the others follow, and zeros after them */
@@ -108,10 +110,11 @@ uint64_t castanetash_read(const uint8_t *message, size_t message_len, uint8_t wa
  *   23 if the form is read only, whatever else is lent;
  *   7 for its selectors from left to right, one wider than its byte too; and at the last of them if they lead to
  *     another form than the row's;
- *   6 if there are too few or too many open bytes, or any for a form without them, or the count of a list (43) is not
- *     1 to 8: with the smallest size of the form, which for a list is 7;
- *   7 for its other fields from left to right: a number that is not in its list, such as a mode of 16 or 300, a float
- *     that is not finite, a number too wide for six bytes;
+ *   6 if there are too few or too many open bytes, or any for a form without them, or an odd number of bytes for
+ *     feedback (82), or the count of a list (43) is not 1 to 8: with the smallest size of the form, which for a list
+ *     is 7 and for feedback 5;
+ *   7 for its other fields from left to right: a number that is not in its list, such as a mode of 16 or 300 or a speed
+ *     of -101 or 200, a float that is not finite, a number too wide for six bytes, a feedback byte over 31;
  *   255 for a number too wide for a field that has no list, such as a port of 300, or a float's cell over 32 bits;
  *   8 if out is shorter than the message. */
 uint64_t castanetash_write(const uint64_t *row, size_t row_len, uint8_t way, const uint8_t *open, size_t open_len,
@@ -167,7 +170,14 @@ enum castanetash_form {
     CASTANETASH_FORM_INPUT_FORMAT = 31, /* 47 up, 10 bytes */
     /* Virtual Port Setup */
     CASTANETASH_FORM_VIRTUAL_DISCONNECT = 32, /* 61 down, 5 bytes */
-    CASTANETASH_FORM_VIRTUAL_CONNECT = 33     /* 61 down, 6 bytes */
+    CASTANETASH_FORM_VIRTUAL_CONNECT = 33,    /* 61 down, 6 bytes */
+    /* Port Output Command: drives motors */
+    CASTANETASH_FORM_START_SPEED_FOR_DEGREES = 34, /* 81 down, 15 bytes */
+    CASTANETASH_FORM_GOTO_ABSOLUTE_POSITION = 35,  /* 81 down, 14 bytes */
+    CASTANETASH_FORM_GOTO_ABSOLUTE_POSITIONS = 36, /* 81 down, 18 bytes */
+    CASTANETASH_FORM_PRESET_ENCODERS = 37,         /* 81 down, 14 bytes */
+    /* Port Output Command Feedback: tells how far the commands are */
+    CASTANETASH_FORM_OUTPUT_FEEDBACK = 38 /* 82 up, 5 to 127 bytes */
 };
 
 /* ---- The values of each form ----
@@ -177,7 +187,8 @@ enum castanetash_form {
  * uint64_t to write it. f32 is the 32 bits of a float, which is finite. A u48 is six bytes, the first the most
  * significant. [..] is a selector: with the type it decides on the form.
  *
- * Forms 15 to 17 have no values: GO_INTO_BOOT_MODE and LOCK_MEMORY carry fixed strings, LOCK_STATUS_REQUEST nothing.
+ * Forms 15 to 17 and 38 have no values: GO_INTO_BOOT_MODE and LOCK_MEMORY carry fixed strings, LOCK_STATUS_REQUEST
+ * nothing, and OUTPUT_FEEDBACK open bytes alone.
  *
  * Hub Properties. Operations down are 1 set, 2 enable updates, 3 disable updates, 4 reset, 5 request; up is 6 update.
  * Set and update carry the property, in the form below; the others are PROPERTY_COMMAND.
@@ -402,6 +413,57 @@ enum castanetash_virtual_connect {
     CASTANETASH_VIRTUAL_CONNECT_PORT_B = 6  /* u8 */
 };
 
+/* Port Output Command. Start byte: 16 executes at once, else it is buffered if necessary; plus 1 if feedback (82) is
+ * wanted. Speeds and power are percent; the sign of a speed is its direction. End states: 0 float, 126 hold, 127 brake.
+ * Profile: bits 1 acceleration, 2 deceleration. GOTO_ABSOLUTE_POSITION is for one motor or a virtual port, the others
+ * are for the two motors of a virtual port. */
+enum castanetash_start_speed_for_degrees {
+    CASTANETASH_START_SPEED_FOR_DEGREES_PORT = 4,        /* u8 */
+    CASTANETASH_START_SPEED_FOR_DEGREES_START = 5,       /* 0, 1, 16 or 17 */
+    CASTANETASH_START_SPEED_FOR_DEGREES_SUB = 6,         /* [12] */
+    CASTANETASH_START_SPEED_FOR_DEGREES_DEGREES = 7,     /* 0 to 10000000, an i32 */
+    CASTANETASH_START_SPEED_FOR_DEGREES_SPEED_LEFT = 8,  /* -100 to 100, an i8 */
+    CASTANETASH_START_SPEED_FOR_DEGREES_SPEED_RIGHT = 9, /* -100 to 100, an i8 */
+    CASTANETASH_START_SPEED_FOR_DEGREES_POWER = 10,      /* 0 to 100 */
+    CASTANETASH_START_SPEED_FOR_DEGREES_END_STATE = 11,  /* 0, 126 or 127 */
+    CASTANETASH_START_SPEED_FOR_DEGREES_PROFILE = 12     /* 0 to 3 */
+};
+
+enum castanetash_goto_absolute_position {
+    CASTANETASH_GOTO_ABSOLUTE_POSITION_PORT = 4,       /* u8 */
+    CASTANETASH_GOTO_ABSOLUTE_POSITION_START = 5,      /* 0, 1, 16 or 17 */
+    CASTANETASH_GOTO_ABSOLUTE_POSITION_SUB = 6,        /* [13] */
+    CASTANETASH_GOTO_ABSOLUTE_POSITION_POSITION = 7,   /* i32, degrees */
+    CASTANETASH_GOTO_ABSOLUTE_POSITION_SPEED = 8,      /* 1 to 100 */
+    CASTANETASH_GOTO_ABSOLUTE_POSITION_POWER = 9,      /* 0 to 100 */
+    CASTANETASH_GOTO_ABSOLUTE_POSITION_END_STATE = 10, /* 0, 126 or 127 */
+    CASTANETASH_GOTO_ABSOLUTE_POSITION_PROFILE = 11    /* 0 to 3 */
+};
+
+enum castanetash_goto_absolute_positions {
+    CASTANETASH_GOTO_ABSOLUTE_POSITIONS_PORT = 4,       /* u8 */
+    CASTANETASH_GOTO_ABSOLUTE_POSITIONS_START = 5,      /* 0, 1, 16 or 17 */
+    CASTANETASH_GOTO_ABSOLUTE_POSITIONS_SUB = 6,        /* [14] */
+    CASTANETASH_GOTO_ABSOLUTE_POSITIONS_POSITION_1 = 7, /* i32, degrees */
+    CASTANETASH_GOTO_ABSOLUTE_POSITIONS_POSITION_2 = 8, /* i32, degrees */
+    CASTANETASH_GOTO_ABSOLUTE_POSITIONS_SPEED = 9,      /* 1 to 100 */
+    CASTANETASH_GOTO_ABSOLUTE_POSITIONS_POWER = 10,     /* 0 to 100 */
+    CASTANETASH_GOTO_ABSOLUTE_POSITIONS_END_STATE = 11, /* 0, 126 or 127 */
+    CASTANETASH_GOTO_ABSOLUTE_POSITIONS_PROFILE = 12    /* 0 to 3 */
+};
+
+enum castanetash_preset_encoders {
+    CASTANETASH_PRESET_ENCODERS_PORT = 4,          /* u8 */
+    CASTANETASH_PRESET_ENCODERS_START = 5,         /* 0, 1, 16 or 17 */
+    CASTANETASH_PRESET_ENCODERS_SUB = 6,           /* [20] */
+    CASTANETASH_PRESET_ENCODERS_LEFT_POSITION = 7, /* i32, degrees */
+    CASTANETASH_PRESET_ENCODERS_RIGHT_POSITION = 8 /* i32, degrees */
+};
+
+/* Port Output Command Feedback. 2 to 124 open bytes, one or more pairs: a port, any, and its feedback, 0 to 31. Bits of
+ * feedback: 1 buffer empty and command in progress, 2 buffer empty and command completed, 4 current command or commands
+ * discarded, 8 idle, 16 busy or full. */
+
 /* ---- The table ----
  *
  * What is known of a hub's ports, at most sixteen, in 464 cells (1856 bytes) that the caller lends to every call and
@@ -409,7 +471,8 @@ enum castanetash_virtual_connect {
  * mode's values (44, information 128). A client asks a port for a mode (41), and the hub answers the mode that the port
  * is in (47): from then on, and not before, its values (45) are in that mode. All of it is forgotten with the port. A
  * virtual port joins two others, and goes when one of them does. When the hub says that it goes (02 up), no port is
- * present any more.
+ * present any more. Commands for motors (81) and their feedback (82) change nothing, and are judged by the ports that
+ * they name.
  *
  * A table may be copied and stored. Before anything else each call tests that the cells are a sound table: no port
  * twice, virtual ports and members that fit each other, every number in its list, free places zeros; else 9.
@@ -429,7 +492,9 @@ uint64_t castanetash_empty(uint32_t *table, size_t table_len);
  *   an attachment 11, 12 (a virtual port's), 13;
  *   a detachment, a 21, 22, 41, 43, 44 or 47: 10;
  *   a 45: 10, 14, 15, 16;
- *   a 61 that connects 12, one that disconnects 10, 12. */
+ *   a 61 that connects 12, one that disconnects 10, 12;
+ *   an 81: 10, then 22 unless it is GOTO_ABSOLUTE_POSITION or the port is virtual; a member of a virtual port is not;
+ *   an 82: 10 if any of its ports isn't present. */
 uint64_t castanetash_offer(uint32_t *table, size_t table_len, const uint8_t *message, size_t message_len, uint8_t way,
                            uint16_t experiment);
 
@@ -465,8 +530,8 @@ enum castanetash_dataset_kind {
  * datasets they are. The message is judged as castanetash_offer would, and changes nothing. A 45 changes no table, so
  * it need not be offered: read a message's values first, and offer it if that is refused as 17.
  *
- * Refused: 9; 1 to 7 as in reading; 10 to 16 as in castanetash_offer; 17 if the message is accepted, but is no 45; 18
- * if any dataset is an infinity or a NaN; 255 if rows has fewer cells than 6 times the datasets. */
+ * Refused: 9; 1 to 7 as in reading; 10 to 16 and 22 as in castanetash_offer; 17 if the message is accepted, but is no
+ * 45; 18 if any dataset is an infinity or a NaN; 255 if rows has fewer cells than 6 times the datasets. */
 uint64_t castanetash_values(const uint32_t *table, size_t table_len, const uint8_t *message, size_t message_len,
                             uint8_t way, uint64_t *rows, size_t rows_len);
 

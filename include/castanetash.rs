@@ -146,7 +146,7 @@ pub mod refused {
     pub const OUTPUT: u32 = 8;
     /// The lent cells are no sound table.
     pub const TABLE: u32 = 9;
-    /// The port named isn't present.
+    /// A port named isn't present.
     pub const PORT_ABSENT: u32 = 10;
     /// An attached port is present already.
     pub const PORT_PRESENT: u32 = 11;
@@ -167,6 +167,8 @@ pub mod refused {
     pub const NOT_FINITE: u32 = 18;
     /// A log's record is malformed: only in the text of `read_block`.
     pub const LOG_RECORD: u32 = 19;
+    /// A command for two motors to a port that is not virtual.
+    pub const NOT_VIRTUAL: u32 = 22;
     /// `write` is given a form that is read only.
     pub const READ_ONLY: u32 = 23;
     /// A lent row is too short for the answer; or `write` is given a row that is no message's own.
@@ -177,7 +179,7 @@ pub mod refused {
 pub mod row {
     /// One of `form`.
     pub const FORM: usize = 0;
-    /// Where the open bytes (a name, symbol, text or value) start in the message.
+    /// Where the open bytes (a name, symbol, text or value, or pairs of port and feedback) start in the message.
     pub const OPEN_START: usize = 1;
     /// How many they are, 0 for most forms.
     pub const OPEN_COUNT: usize = 2;
@@ -281,6 +283,20 @@ pub mod form {
     pub const VIRTUAL_DISCONNECT: u64 = 32;
     /// 61 down, 6 bytes.
     pub const VIRTUAL_CONNECT: u64 = 33;
+
+    // Port Output Command: drives motors
+    /// 81 down, 15 bytes.
+    pub const START_SPEED_FOR_DEGREES: u64 = 34;
+    /// 81 down, 14 bytes.
+    pub const GOTO_ABSOLUTE_POSITION: u64 = 35;
+    /// 81 down, 18 bytes.
+    pub const GOTO_ABSOLUTE_POSITIONS: u64 = 36;
+    /// 81 down, 14 bytes.
+    pub const PRESET_ENCODERS: u64 = 37;
+
+    // Port Output Command Feedback: tells how far the commands are
+    /// 82 up, 5 to 127 bytes: 2 to 124 open bytes, pairs of a port and its feedback, 0 to 31, and no values.
+    pub const OUTPUT_FEEDBACK: u64 = 38;
 }
 
 // The values of each form: where they stand in a row, and what may stand there, a list or any number of a width. i8 and
@@ -570,6 +586,84 @@ pub mod virtual_connect {
     pub const PORT_A: usize = 5;
     /// u8.
     pub const PORT_B: usize = 6;
+}
+
+/// For the two motors of a virtual port.
+pub mod start_speed_for_degrees {
+    /// u8.
+    pub const PORT: usize = 4;
+    /// 16 to execute at once, else 0: buffered if necessary; plus 1 if feedback is wanted.
+    pub const START: usize = 5;
+    /// Selector: 12.
+    pub const SUB: usize = 6;
+    /// 0 to 10000000, an i32.
+    pub const DEGREES: usize = 7;
+    /// -100 to 100 percent, an i8. The sign is the direction.
+    pub const SPEED_LEFT: usize = 8;
+    /// -100 to 100 percent, an i8. The sign is the direction.
+    pub const SPEED_RIGHT: usize = 9;
+    /// 0 to 100 percent.
+    pub const POWER: usize = 10;
+    /// 0 float, 126 hold or 127 brake.
+    pub const END_STATE: usize = 11;
+    /// 0 to 3: 1 acceleration, 2 deceleration.
+    pub const PROFILE: usize = 12;
+}
+
+/// For one motor, or a virtual port.
+pub mod goto_absolute_position {
+    /// u8.
+    pub const PORT: usize = 4;
+    /// 16 to execute at once, else 0: buffered if necessary; plus 1 if feedback is wanted.
+    pub const START: usize = 5;
+    /// Selector: 13.
+    pub const SUB: usize = 6;
+    /// i32, degrees.
+    pub const POSITION: usize = 7;
+    /// 1 to 100 percent.
+    pub const SPEED: usize = 8;
+    /// 0 to 100 percent.
+    pub const POWER: usize = 9;
+    /// 0 float, 126 hold or 127 brake.
+    pub const END_STATE: usize = 10;
+    /// 0 to 3: 1 acceleration, 2 deceleration.
+    pub const PROFILE: usize = 11;
+}
+
+/// For the two motors of a virtual port.
+pub mod goto_absolute_positions {
+    /// u8.
+    pub const PORT: usize = 4;
+    /// 16 to execute at once, else 0: buffered if necessary; plus 1 if feedback is wanted.
+    pub const START: usize = 5;
+    /// Selector: 14.
+    pub const SUB: usize = 6;
+    /// i32, degrees.
+    pub const POSITION_1: usize = 7;
+    /// i32, degrees.
+    pub const POSITION_2: usize = 8;
+    /// 1 to 100 percent.
+    pub const SPEED: usize = 9;
+    /// 0 to 100 percent.
+    pub const POWER: usize = 10;
+    /// 0 float, 126 hold or 127 brake.
+    pub const END_STATE: usize = 11;
+    /// 0 to 3: 1 acceleration, 2 deceleration.
+    pub const PROFILE: usize = 12;
+}
+
+/// For the two motors of a virtual port.
+pub mod preset_encoders {
+    /// u8.
+    pub const PORT: usize = 4;
+    /// 16 to execute at once, else 0: buffered if necessary; plus 1 if feedback is wanted.
+    pub const START: usize = 5;
+    /// Selector: 20.
+    pub const SUB: usize = 6;
+    /// i32, degrees.
+    pub const LEFT_POSITION: usize = 7;
+    /// i32, degrees.
+    pub const RIGHT_POSITION: usize = 8;
 }
 
 /// How a port's latest 47 stands to its latest 41.

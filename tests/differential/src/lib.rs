@@ -27,7 +27,9 @@ pub use program::{logread, logread_by_shell, logread_path, printed, printed_in_p
 pub use read_only::{read_only, READ_ONLY};
 pub use table::{dataset_cells, format_cells, offer_answer, port_cells, values_cells, LentTable, TableTally, Trio};
 pub use tally::Tally;
-pub use writing::{any_call, edges, near_call, outside, valid_calls, valid_messages, Call, WriteTally, OUTPUT};
+pub use writing::{
+    any_call, bad_feedback_calls, edges, near_call, outside, valid_calls, valid_messages, Call, WriteTally, OUTPUT,
+};
 pub use wrong_size::{wrong_size, WRONG_SIZE};
 pub use yardstick::traffic::{known_types, plausible};
 pub use yardstick::Random;

@@ -44,6 +44,15 @@ port 0: device 38, mode 2, datasets 1, kind 2
 port 3: device 21, mode 0, datasets 2, kind 3
 refused: 1
 ";
+const DRIVE_VIRTUAL: &str = "\
+written: 12 00 81 10 11 0E 5A 00 00 00 A6 FF FF FF 32 64 7E 03
+port 16: feedback 1
+port 16: feedback 10
+port 0: feedback 8
+port 1: feedback 8
+written: 12 00 81 00 11 0E 5A 00 00 00 A6 FF FF FF 32 64 7E 03
+refusal 22, place 0
+";
 
 #[derive(Clone, Copy, Debug)]
 enum Language {
@@ -119,7 +128,11 @@ fn text_of(path: &str) -> String {
 #[test]
 fn examples_print_what_they_should() {
     for language in LANGUAGES {
-        for (name, wanted) in [("write_and_read", WRITE_AND_READ), ("port_table", PORT_TABLE)] {
+        for (name, wanted) in [
+            ("write_and_read", WRITE_AND_READ),
+            ("port_table", PORT_TABLE),
+            ("drive_virtual", DRIVE_VIRTUAL),
+        ] {
             let program = build(name, language, "printed");
             assert_eq!(accepted(&mut Command::new(program)), wanted, "{name} in {language:?}");
         }
@@ -645,6 +658,66 @@ const SAMPLES: [Sample; Form::COUNT] = [
         b"\x06\x00\x61\x01\x05\x06",
         &[("SUB", 1), ("PORT_A", 5), ("PORT_B", 6)],
     ),
+    (
+        Form::StartSpeedForDegrees,
+        Way::Down,
+        b"\x0F\x00\x81\x09\x11\x0C\x68\x01\x00\x00\x32\xCE\x64\x7E\x03",
+        &[
+            ("PORT", 9),
+            ("START", 17),
+            ("SUB", 12),
+            ("DEGREES", 360),
+            ("SPEED_LEFT", 50),
+            ("SPEED_RIGHT", -50),
+            ("POWER", 100),
+            ("END_STATE", 126),
+            ("PROFILE", 3),
+        ],
+    ),
+    (
+        Form::GotoAbsolutePosition,
+        Way::Down,
+        b"\x0E\x00\x81\x09\x10\x0D\xFD\xFF\xFF\xFF\x32\x64\x7F\x02",
+        &[
+            ("PORT", 9),
+            ("START", 16),
+            ("SUB", 13),
+            ("POSITION", -3),
+            ("SPEED", 50),
+            ("POWER", 100),
+            ("END_STATE", 127),
+            ("PROFILE", 2),
+        ],
+    ),
+    (
+        Form::GotoAbsolutePositions,
+        Way::Down,
+        b"\x12\x00\x81\x09\x11\x0E\x5A\x00\x00\x00\xA6\xFF\xFF\xFF\x32\x64\x7E\x03",
+        &[
+            ("PORT", 9),
+            ("START", 17),
+            ("SUB", 14),
+            ("POSITION_1", 90),
+            ("POSITION_2", -90),
+            ("SPEED", 50),
+            ("POWER", 100),
+            ("END_STATE", 126),
+            ("PROFILE", 3),
+        ],
+    ),
+    (
+        Form::PresetEncoders,
+        Way::Down,
+        b"\x0E\x00\x81\x09\x01\x14\xFD\xFF\xFF\xFF\x04\x03\x02\x01",
+        &[
+            ("PORT", 9),
+            ("START", 1),
+            ("SUB", 20),
+            ("LEFT_POSITION", -3),
+            ("RIGHT_POSITION", 0x0102_0304),
+        ],
+    ),
+    (Form::OutputFeedback, Way::Up, b"\x07\x00\x82\x09\x0A\x00\x1F", &[]),
 ];
 
 /// The name of a form in the header: `HUB_ACTION` for `HubAction`.
@@ -797,6 +870,7 @@ fn refusals_are_those_of_the_second_program() {
         ("NO_DATASET", Refusal::NO_DATASET.number),
         ("NOT_FINITE", Refusal::NOT_FINITE.number),
         ("LOG_RECORD", Refusal::LOG_RECORD.number),
+        ("NOT_VIRTUAL", Refusal::NOT_VIRTUAL.number),
         ("READ_ONLY", Refusal::READ_ONLY.number),
         ("ROW", 255),
     ];
@@ -885,6 +959,30 @@ fn functions_for_rust_call_the_library() {
     assert_eq!(castanetash::write(&row, 1, &[], &mut out), refused(5, 2));
     assert_eq!(out, *b"\x0A\x00\x41\x09\x03\x05\x00\x00\x00\x01\x07");
 
+    // A command for two motors, with a speed that is none; feedback, which is open bytes.
+    let turn = b"\x0F\x00\x81\x09\x11\x0C\x68\x01\x00\x00\x32\xCE\x64\x7E\x03";
+    let mut out = [7; 16];
+    assert_eq!(castanetash::read(turn, 0, &mut row), Ok(castanetash::ROW_CELLS));
+    let minus_fifty = -50_i64 as u64;
+    assert_eq!(
+        row,
+        [34, 0, 0, 9, 9, 17, 12, 360, 50, minus_fifty, 100, 126, 3, 0, 0, 0, 7]
+    );
+    assert_eq!(castanetash::write(&row, 0, &[], &mut out), Ok(15));
+    assert_eq!(
+        &out,
+        b"\x0F\x00\x81\x09\x11\x0C\x68\x01\x00\x00\x32\xCE\x64\x7E\x03\x07"
+    );
+    row[castanetash::start_speed_for_degrees::SPEED_RIGHT] = -101_i64 as u64;
+    assert_eq!(castanetash::write(&row, 0, &[], &mut out), refused(7, 11));
+    let feedback = b"\x07\x00\x82\x09\x0A\x00\x1F";
+    assert_eq!(castanetash::read(feedback, 1, &mut row), Ok(castanetash::ROW_CELLS));
+    assert_eq!(row, [38, 3, 4, 0, 0, 0, 0, 0, 0, 0, 0, 0, 0, 0, 0, 0, 7]);
+    assert_eq!(castanetash::write(&row, 1, &feedback[3..], &mut out), Ok(7));
+    assert_eq!(out[..7], *feedback);
+    assert_eq!(castanetash::write(&row, 1, &feedback[4..], &mut out), refused(6, 5));
+    assert_eq!(castanetash::write(&row, 1, &[9, 0x20], &mut out), refused(7, 4));
+
     let mut table = [7; TABLE_CELLS];
     let mut second = Table::default();
     assert_eq!(castanetash::empty(&mut table[1..]), refused(9, 0));
@@ -896,6 +994,11 @@ fn functions_for_rust_call_the_library() {
     assert_eq!(table, second.to_cells());
     assert_eq!(castanetash::offer(&mut table, attached, 1, 0), refused(11, 0));
     assert_eq!(castanetash::offer(&mut table, no_value, 1, 0), refused(6, 5));
+    assert_eq!(castanetash::offer(&mut table, turn, 0, 0), refused(22, 0));
+    // Port 0 isn't present.
+    assert_eq!(castanetash::offer(&mut table, feedback, 1, 0), refused(10, 0));
+    assert_eq!(castanetash::offer(&mut table, b"\x05\x00\x82\x09\x0A", 1, 0), Ok(0));
+    assert_eq!(table, second.to_cells());
 
     let minus_two = -2i64 as u64;
     let mut row = [70; 7];

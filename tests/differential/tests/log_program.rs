@@ -20,7 +20,7 @@ fn numbers(text: &[u8]) -> Vec<Vec<i64>> {
 /// Counts lines by their refusal, and values.
 #[derive(Default)]
 struct Lines {
-    by_refusal: [u64; 20],
+    by_refusal: [u64; 24],
     values: u64,
     /// Values by their state, and those with an experiment number other than 0.
     by_state: [u64; 4],
@@ -104,7 +104,7 @@ fn made_logs() {
         compare(&every, &mut lines, "every");
     }
     lines.print("made logs");
-    let shown = [0, 1, 2, 3, 4, 5, 6, 7, 10, 11, 12, 13, 14, 15, 16, 18, 19];
+    let shown = [0, 1, 2, 3, 4, 5, 6, 7, 10, 11, 12, 13, 14, 15, 16, 18, 19, 22];
     for refusal in shown {
         assert!(lines.by_refusal[refusal] > 10, "refusal {refusal} is seldom");
     }

@@ -57,7 +57,7 @@ fn expect_written<T: differential::Filling>(answer: u64, lent: &Lent<T>, written
 }
 
 /// Messages that reading refuses, with their way and the answer. The place of 6 is the size that was wanted.
-const UNREAD: [(u8, &str, u64); 19] = [
+const UNREAD: [(u8, &str, u64); 26] = [
     (DOWN, "", refusal(1, 0)),
     (UP, "80", refusal(2, 0)),
     (DOWN, "04 00 02", refusal(3, 0)),
@@ -77,6 +77,13 @@ const UNREAD: [(u8, &str, u64); 19] = [
     (DOWN, "04 00 12 00", refusal(6, 3)),
     (DOWN, "04 00 02 07", refusal(7, 3)),
     (UP, "0E 00 44 00 00 01 00 00 00 00 00 00 80 7F", refusal(7, 10)),
+    (UP, "0E 00 81 10 11 14 00 00 00 00 00 00 00 00", refusal(5, 2)),
+    (DOWN, "05 00 81 10 11", refusal(6, 6)),
+    (DOWN, "06 00 81 10 22 0B", refusal(7, 5)),
+    (DOWN, "0E 00 81 10 22 0E 00 00 00 00 00 00 00 00", refusal(6, 18)),
+    (DOWN, "0F 00 81 10 11 0C 00 00 00 00 32 9B 64 00 00", refusal(7, 11)),
+    (UP, "06 00 82 10 20 00", refusal(6, 5)),
+    (UP, "07 00 82 63 0A 00 20", refusal(7, 6)),
 ];
 
 #[test]
@@ -107,6 +114,16 @@ fn read() {
             UP,
             "09 00 43 01 02 16 00 03 00",
             [23, 0, 0, 11, 1, 2, 2, 0x16, 3, 0, 0, 0, 0, 0, 0, 0],
+        ),
+        (
+            DOWN,
+            "0F 00 81 10 11 0C 68 01 00 00 32 CE 64 7E 03",
+            [34, 0, 0, 9, 16, 17, 12, 360, 50, -50_i64 as u64, 100, 126, 3, 0, 0, 0],
+        ),
+        (
+            UP,
+            "07 00 82 10 0A 00 1F",
+            [38, 3, 4, 0, 0, 0, 0, 0, 0, 0, 0, 0, 0, 0, 0, 0],
         ),
     ] {
         for cells in 0..ROW_CELLS {
@@ -152,7 +169,7 @@ fn write() {
         }
     }
     // No form, which comes as early.
-    for form in [0, 34, 255, 256 + 21, 1 << 32 | 21, u64::MAX] {
+    for form in [0, 39, 255, 256 + 21, 1 << 32 | 21, u64::MAX] {
         for way in [DOWN, UP] {
             for out in every_output() {
                 call(way, &row(form, &[0x32, 15, 1, 1]), b"xyz", out, BAD_ROW, "");
@@ -166,6 +183,8 @@ fn write() {
         call(UP, &row(16, &[300]), b"xyz", out, refusal(5, 2), "");
         call(UP, &row(17, &[300]), b"xyz", out, refusal(5, 2), "");
         call(DOWN, &row(18, &[300]), b"xyz", out, refusal(5, 2), "");
+        call(UP, &row(34, &[300, 300, 300]), b"xyz", out, refusal(5, 2), "");
+        call(DOWN, &row(38, &[]), b"xyz", out, refusal(5, 2), "");
         // 11, 12 and 13 are only read, which comes next; alone, and with wrong open bytes and a wide number.
         for open in [&b""[..], b"xyz"] {
             call(DOWN, &row(16, &[]), open, out, refusal(23, 0), "");
@@ -180,6 +199,8 @@ fn write() {
         call(UP, &row(4, &[3, 6, 300]), b"xyz", out, refusal(7, 4), "");
         call(UP, &row(11, &[300, 1]), b"xyz", out, refusal(7, 4), "");
         call(UP, &row(24, &[300, 300, 1]), b"", out, refusal(7, 5), "");
+        call(DOWN, &row(37, &[300, 300, 12]), b"xyz", out, refusal(7, 5), "");
+        call(DOWN, &row(37, &[300, 300, 256 + 20]), b"xyz", out, refusal(7, 5), "");
         // Open bytes: some for a form without them, too few, too many. The count of a 43. The place is the smallest
         // size of the form, of a 43's list the one with a single entry.
         call(DOWN, &row(21, &[300, 300, 1, 300]), b"x", out, refusal(6, 10), "");
@@ -193,6 +214,10 @@ fn write() {
         call(UP, &row(23, &[300, 2, 300]), b"", out, refusal(6, 7), "");
         call(UP, &row(23, &[0, 2, 0]), b"", out, refusal(6, 7), "");
         call(UP, &row(23, &[0, 2, 3, 1, 2, 3]), b"x", out, refusal(6, 7), "");
+        call(DOWN, &row(36, &[300, 300, 14]), b"x", out, refusal(6, 18), "");
+        call(UP, &row(38, &[]), b"", out, refusal(6, 5), "");
+        call(UP, &row(38, &[]), b"\x10\x0A\x00", out, refusal(6, 5), "");
+        call(UP, &row(38, &[]), &[0xFF; 126], out, refusal(6, 5), "");
         // Fields with a list: the first of two, the second, and one to the right of a wide number.
         call(DOWN, &row(21, &[300, 300, 1, 300]), b"", out, refusal(7, 4), "");
         call(DOWN, &row(21, &[300, 15, 1 << 32, 2]), b"", out, refusal(7, 9), "");
@@ -205,7 +230,17 @@ fn write() {
             refusal(7, 10),
             "",
         );
+        let turn = |degrees: i64, speed: i64| row(34, &[300, 17, 12, degrees as u64, 100, speed as u64, 0, 0, 0]);
+        call(DOWN, &row(37, &[300, 18, 20, 1 << 32]), b"", out, refusal(7, 4), "");
+        call(DOWN, &turn(-1, 101), b"", out, refusal(7, 6), "");
+        call(DOWN, &turn(1 << 32, 101), b"", out, refusal(7, 6), "");
+        call(DOWN, &turn(360, -101), b"", out, refusal(7, 11), "");
+        call(DOWN, &turn(360, 200), b"", out, refusal(7, 11), "");
+        call(DOWN, &turn(360, i64::MIN), b"", out, refusal(7, 11), "");
+        call(UP, &row(38, &[]), b"\x10\x1F\x00\x20", out, refusal(7, 6), "");
         // Numbers that are wider than their fields, which have no list.
+        call(DOWN, &turn(360, -100), b"", out, BAD_ROW, "");
+        call(DOWN, &row(37, &[16, 17, 20, 1 << 31, 0]), b"", out, BAD_ROW, "");
         call(DOWN, &row(21, &[300, 15, 1, 1]), b"", out, BAD_ROW, "");
         call(DOWN, &row(21, &[0, 15, 1 << 32, 1]), b"", out, BAD_ROW, "");
         call(UP, &row(4, &[5, 6, 128]), b"", out, BAD_ROW, "");
@@ -223,6 +258,13 @@ fn write() {
     }
     for out in [11, 12, 127, 128, 200] {
         call(UP, &text, b"SPEED", out, 11, "0B 00 44 00 01 00 53 50 45 45 44");
+    }
+    let feedback = row(38, &[]);
+    for out in 0..7 {
+        call(UP, &feedback, b"\x10\x0A\x00\x1F", out, refusal(8, 0), "");
+    }
+    for out in [7, 8, 127, 128, 200] {
+        call(UP, &feedback, b"\x10\x0A\x00\x1F", out, 7, "07 00 82 10 0A 00 1F");
     }
     given.expect_all("castanetash_write", &[0, 5, 6, 7, 8, 23, 255]);
 }
@@ -283,7 +325,7 @@ fn unsound() -> Vec<Vec<u32>> {
 }
 
 /// Messages that reading accepts and the table refuses, with the answer.
-const UNSUITABLE: [(u8, &str, u64); 12] = [
+const UNSUITABLE: [(u8, &str, u64); 18] = [
     (UP, "05 00 45 63 00", refusal(10, 0)),
     (DOWN, "05 00 21 63 00", refusal(10, 0)),
     (UP, "0F 00 04 00 01 26 00 00 00 00 10 00 00 00 10", refusal(11, 0)),
@@ -296,13 +338,26 @@ const UNSUITABLE: [(u8, &str, u64); 12] = [
     (UP, "05 00 45 02 00", refusal(15, 0)),
     (UP, "07 00 45 00 00 00 00", refusal(16, 0)),
     (UP, "0D 00 45 03 00 00 80 3F 00 00 80 7F 00", refusal(16, 0)),
+    (DOWN, "0E 00 81 63 11 0D 00 00 00 00 01 00 00 00", refusal(10, 0)),
+    (DOWN, "0E 00 81 63 11 14 00 00 00 00 00 00 00 00", refusal(10, 0)),
+    (DOWN, "0E 00 81 00 11 14 00 00 00 00 00 00 00 00", refusal(22, 0)),
+    (DOWN, "0F 00 81 04 11 0C 00 00 00 00 32 CE 64 00 00", refusal(22, 0)),
+    (
+        DOWN,
+        "12 00 81 C8 11 0E 00 00 00 00 00 00 00 00 01 00 00 00",
+        refusal(22, 0),
+    ),
+    (UP, "07 00 82 10 0A 63 01", refusal(10, 0)),
 ];
 
 /// Messages that are accepted and have no value.
-const OTHERS: [(u8, &str); 3] = [
+const OTHERS: [(u8, &str); 6] = [
     (DOWN, "03 00 12"),
     (UP, "04 00 13 FF"),
     (DOWN, "0A 00 41 01 02 01 00 00 00 01"),
+    (DOWN, "0E 00 81 10 11 14 00 00 00 00 00 00 00 00"),
+    (DOWN, "0E 00 81 04 11 0D 00 00 00 00 01 00 00 00"),
+    (UP, "09 00 82 10 0A 04 01 C8 1F"),
 ];
 
 /// The value of port 0: 5 and -3.
@@ -393,11 +448,14 @@ fn offer() {
         assert_eq!(call(&table(), UP, message, 0), table());
     }
     assert_eq!(call(&table(), DOWN, "03 00 12", 0), table());
+    for (way, message) in &OTHERS[3..] {
+        assert_eq!(call(&table(), *way, message, 0), table());
+    }
     assert_eq!(call(&table(), UP, "04 00 02 30", 0), [0; TABLE_CELLS]);
     assert_ne!(call(&table(), DOWN, "0A 00 41 01 02 01 00 00 00 01", 0), table());
     given.expect_all(
         "castanetash_offer",
-        &[0, 1, 2, 3, 4, 5, 6, 7, 9, 10, 11, 12, 13, 14, 15, 16],
+        &[0, 1, 2, 3, 4, 5, 6, 7, 9, 10, 11, 12, 13, 14, 15, 16, 22],
     );
 }
 
@@ -464,7 +522,7 @@ fn dataset() {
     }
     given.expect_all(
         "castanetash_dataset",
-        &[0, 1, 2, 3, 4, 5, 6, 7, 9, 10, 11, 12, 13, 14, 15, 16, 17, 18, 255],
+        &[0, 1, 2, 3, 4, 5, 6, 7, 9, 10, 11, 12, 13, 14, 15, 16, 17, 18, 22, 255],
     );
 }
 
@@ -516,7 +574,7 @@ fn values() {
     }
     given.expect_all(
         "castanetash_values",
-        &[0, 1, 2, 3, 4, 5, 6, 7, 9, 10, 11, 12, 13, 14, 15, 16, 17, 18, 255],
+        &[0, 1, 2, 3, 4, 5, 6, 7, 9, 10, 11, 12, 13, 14, 15, 16, 17, 18, 22, 255],
     );
 }
 

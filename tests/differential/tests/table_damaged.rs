@@ -324,6 +324,17 @@ fn sound_examples() {
                 ),
                 (Way::Up, vec![0x05, 0x00, 0x45, port, 0x02], 7),
                 (Way::Down, vec![0x05, 0x00, 0x61, 0x00, port], 8),
+                (
+                    Way::Down,
+                    vec![0x0E, 0x00, 0x81, port, 0x11, 0x14, 0, 0, 0, 0, 0, 0, 0, 0],
+                    9,
+                ),
+                (
+                    Way::Down,
+                    vec![0x0E, 0x00, 0x81, port, 0x11, 0x0D, 0, 0, 0, 0, 1, 0, 0, 0],
+                    10,
+                ),
+                (Way::Up, vec![0x07, 0x00, 0x82, port, 0x0A, 11, 0x0A], 11),
             ],
         };
         for port in (0..20).chain([200, 254, 255]) {
@@ -331,7 +342,7 @@ fn sound_examples() {
         }
     }
     println!("sound examples: {tally}");
-    tally.expect_offered([0, 9, 10, 12, 14, 15], 50);
+    tally.expect_offered([0, 9, 10, 12, 14, 15, 22], 50);
 }
 
 /// The sound tables of above with their records in another order, and something harmed now and then.

@@ -41,9 +41,9 @@ fn short_lists() {
     }
     println!("short lists: {tally}");
     tally.expect_offered([0], 1000);
-    tally.expect_offered(10..=16, 30);
-    tally.expect_handed_out(10..=18, 30);
-    tally.expect_whole((10..=18).filter(|&number| number != 13), 20);
+    tally.expect_offered((10..=16).chain([22]), 30);
+    tally.expect_handed_out((10..=18).chain([22]), 30);
+    tally.expect_whole((10..=18).chain([22]).filter(|&number| number != 13), 20);
     tally.expect_signs(100);
     tally.expect_ports(500);
     tally.expect_experiments(20);
@@ -54,7 +54,7 @@ fn short_lists() {
 #[test]
 fn long_lists() {
     let mut tally = TableTally::default();
-    for (seed, scene) in lists(101, 160) {
+    for (seed, scene) in lists(101, 200) {
         let mut random = Random::new(!seed);
         let mut traffic = Traffic::new(seed, scene);
         let mut trio = Trio::default();
@@ -73,10 +73,11 @@ fn long_lists() {
     println!("long lists: {tally}");
     tally.expect_offered([0], 20_000);
     tally.expect_offered(2..=7, 50);
-    tally.expect_offered(10..=16, 500);
+    tally.expect_offered((10..=16).chain([22]), 500);
     tally.expect_handed_out([0], 20_000);
     tally.expect_handed_out(2..=7, 50);
     tally.expect_handed_out(10..=18, 1000);
+    tally.expect_handed_out([22], 500);
     tally.expect_whole([0, 10, 14, 15, 16, 18], 500);
     tally.expect_every_number_of_datasets(20);
     tally.expect_lists_of_ports(0..=16, 100);
@@ -133,9 +134,9 @@ fn unguided_lists() {
     tally.expect_whole([2, 3, 4, 5, 6, 7, 10, 17], 50);
 }
 
-/// Messages about three ports: the third may be virtual, and the first is set up. Each has an experiment number of its
-/// own, and the same 41 comes with two.
-const FEW: [(Way, &str, u16); 15] = [
+/// Messages about three ports: the third may be virtual and is driven, and the first is set up. Each has an experiment
+/// number of its own, and the same 41 comes with two.
+const FEW: [(Way, &str, u16); 17] = [
     (Way::Up, "0F 00 04 00 01 26 00 00 00 00 10 00 00 00 10", 1),
     (Way::Up, "0F 00 04 01 01 27 00 00 00 00 10 00 00 00 10", 2),
     (Way::Up, "0F 00 04 02 01 28 00 00 00 00 10 00 00 00 10", 3),
@@ -151,6 +152,8 @@ const FEW: [(Way, &str, u16); 15] = [
     (Way::Up, "0A 00 47 00 01 00 00 00 00 00", 11),
     (Way::Up, "0A 00 47 00 02 00 00 00 00 01", 12),
     (Way::Up, "05 00 45 00 07", 13),
+    (Way::Down, "0E 00 81 02 11 14 00 00 00 00 FD FF FF FF", 14),
+    (Way::Up, "07 00 82 02 0A 00 01", 15),
 ];
 
 /// Offers every list of up to `length` of the messages, after those that were offered before.
@@ -181,6 +184,6 @@ fn every_short_list() {
     every_list(&trio, &mut tally, &messages, 4);
     println!("every short list: {tally}");
     tally.expect_offered([0, 10, 11, 12], 1000);
-    tally.expect_offered([14, 15], 300);
+    tally.expect_offered([14, 15, 22], 300);
     tally.expect_ports(1000);
 }

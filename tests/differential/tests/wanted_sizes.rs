@@ -49,8 +49,15 @@ fn wrong_sizes() -> Vec<(Way, Vec<u8>, u64)> {
     wrong
 }
 
+/// The first byte of feedback that is outside its list, in a message of a right size.
+fn bad_feedback(message: &[u8]) -> Option<u64> {
+    let is_bad = |&place: &usize| message[2] == 0x82 && message[place] > 31;
+    let mut places = (4..message.len()).step_by(2);
+    places.find(is_bad).map(|place| refused(Refusal::field(place)))
+}
+
 /// Every form in every size from 0 to 128. Where the size is right, the message is: the filling is then of open bytes
-/// or of the entries of a list.
+/// or of the entries of a list. But for feedback one of the fillings is outside its list.
 #[test]
 fn reading_every_form_in_every_size() {
     let mut tally = Tally::default();
@@ -63,7 +70,7 @@ fn reading_every_form_in_every_size() {
                     0 => Some(refused(Refusal::NO_BYTE)),
                     1..HEADER => Some(refused(Refusal::LENGTH)),
                     TOO_LONG => Some(refused(Refusal::LENGTH_BIT)),
-                    _ if has_right_size(way, &message) => None,
+                    _ if has_right_size(way, &message) => bad_feedback(&message),
                     _ => Some(wrong_size(wanted_size(way, &message))),
                 };
                 let name = format!("{message:02X?} {way:?}");
@@ -95,7 +102,7 @@ fn reading_selectors_that_do_not_fit() {
     for (message_type, holding) in SELECTOR_SIZES {
         let ways: &[Way] = match message_type {
             0x01..=0x03 => &Way::BOTH,
-            0x61 => &[Way::Down],
+            0x61 | 0x81 => &[Way::Down],
             _ => &[Way::Up],
         };
         for &way in ways {
@@ -111,9 +118,9 @@ fn reading_selectors_that_do_not_fit() {
         }
     }
     println!("selectors that don't fit: {tally}");
-    // 01 and 03 both ways, and 04 and 43 up: none or one byte of two. 02 both ways, and 61 down: none of one. 44 up:
-    // none, one or two of three.
-    assert_eq!(tally.messages(), 6 * (1 + 256) + 3 + (1 + 256 + 65_536));
+    // 01 and 03 both ways, and 04 and 43 up: none or one byte of two. 02 both ways, and 61 down: none of one. 44 up and
+    // 81 down: none, one or two of three.
+    assert_eq!(tally.messages(), 6 * (1 + 256) + 3 + 2 * (1 + 256 + 65_536));
     tally.expect_refusals([WRONG_SIZE], tally.messages());
 }
 
@@ -194,6 +201,7 @@ fn may_have_open(call: &Call, open: usize) -> bool {
         (Form::ModeText, [_, _, 0]) => (1..=11).contains(&open),
         (Form::ModeText, _) => (1..=5).contains(&open),
         (Form::PortValue, _) => (1..=123).contains(&open),
+        (Form::OutputFeedback, _) => (1..=62).any(|pairs| open == 2 * pairs),
         _ => open == 0,
     }
 }
@@ -203,6 +211,8 @@ fn length(call: &Call, open: usize) -> usize {
     match call.form {
         // With the smallest size goes one open byte.
         Form::PropertyText | Form::ModeText | Form::PortValue => smallest_size(call.form) - 1 + open,
+        // Or two.
+        Form::OutputFeedback => smallest_size(call.form) - 2 + open,
         // And one entry.
         Form::PortCombinations => smallest_size(call.form) + 2 * (call.values[2] as usize - 1),
         form => smallest_size(form),
@@ -227,7 +237,8 @@ fn writing_every_form_with_every_number_of_open_bytes() {
                     Ok(written) => written,
                     Err(refusal) => refusal,
                 };
-                let answer = tally.compare_row(call.way, &call.row(), &vec![b'x'; open], output);
+                // Each is feedback too.
+                let answer = tally.compare_row(call.way, &call.row(), &vec![0x1F; open], output);
                 assert_eq!(answer, by_hand, "{call:?}, {open} open bytes, {output} bytes of output");
             }
         }

@@ -1,6 +1,6 @@
 //! The fields of every form: every value of every byte, the edges of all fields, and every pair of selectors.
 
-use differential::{edges, valid_calls, Call, WriteTally, READ_ONLY};
+use differential::{bad_feedback_calls, edges, valid_calls, Call, WriteTally, READ_ONLY};
 use yardstick::{Form, Kind, Way};
 
 /// Every value of a kind that has one byte.
@@ -52,14 +52,22 @@ fn example(valid: &[Call], form: Form) -> Call {
     call.expect("every form has an example").clone()
 }
 
-/// A value's edges, and its values in the valid calls. The entries of a 43 are many, so two values have to do for each.
+/// A value's edges, and its values in the valid calls. The entries of a 43 are many, so two values have to do for each;
+/// so are the values of commands for motors, and one edge has to do.
 fn edges_of(valid: &[Call], form: Form, index: usize) -> Vec<u64> {
     if form == Form::PortCombinations && index >= 3 {
         return vec![0, 0xFF00 + index as u64];
     }
     let calls = valid.iter().filter(|call| call.form == form);
     let mut values: Vec<u64> = calls.map(|call| call.values[index]).collect();
-    values.extend(edges(form.kinds()[index]));
+    let edges = edges(form.kinds()[index]);
+    match form {
+        Form::StartSpeedForDegrees
+        | Form::GotoAbsolutePosition
+        | Form::GotoAbsolutePositions
+        | Form::PresetEncoders => values.extend(edges.last()),
+        _ => values.extend(edges),
+    }
     values.sort();
     values.dedup();
     values
@@ -91,7 +99,7 @@ fn all_edges() {
         every_choice(&lists, &mut Vec::new(), &mut |values| {
             call.values.copy_from_slice(values);
             for way in Way::BOTH {
-                for open in [&b""[..], b"\x80", b"RANGE"] {
+                for open in [&b""[..], b"\x80", b"RANGE", b"\x80\x1F"] {
                     call.way = way;
                     call.open.clear();
                     call.open.extend(open);
@@ -102,8 +110,8 @@ fn all_edges() {
     }
     println!("all edges: {tally}");
     tally.expect_forms([0, 5, 6], 1);
-    // Without open bytes and twice with some.
-    tally.expect_forms([READ_ONLY], 3);
+    // Without open bytes and three times with some.
+    tally.expect_forms([READ_ONLY], 4);
     tally.expect_numbers([0, 5, 6, 7], 10_000);
 }
 
@@ -161,6 +169,11 @@ fn every_width() {
                 }
             }
         }
+    }
+    // Feedback has no values.
+    for (call, answer) in bad_feedback_calls() {
+        let told = tally.compare_row(call.way, &call.row(), &call.open, call.output);
+        assert_eq!(told, answer, "{call:?}");
     }
     println!("every width: {tally}");
     tally.expect_forms([7, 255], 50);

@@ -1,8 +1,8 @@
 //! The edges of writing: rows that are too short or have no form, cells that aren't looked at, and the way.
 
 use differential::{
-    castanetash_write, number, outside, read, read_only, valid_calls, valid_messages, way_byte, Call, Lent, WriteTally,
-    BAD_ROW, OUTPUT, READ_ONLY, ROW_CELLS,
+    bad_feedback_calls, castanetash_write, number, outside, read, read_only, valid_calls, valid_messages, way_byte,
+    Call, Lent, WriteTally, BAD_ROW, OUTPUT, READ_ONLY, ROW_CELLS,
 };
 use yardstick::{encode, Form, Kind, Message, Way};
 
@@ -74,8 +74,8 @@ fn fewer_cells_are_no_row_and_more_are_not_looked_at() {
 
 #[test]
 fn other_forms_are_no_message() {
-    let numbers = (34..=600).chain([0, 1 << 16, u32::MAX.into(), u64::MAX]);
-    let wide = (1..=33).flat_map(|form| [8, 16, 32, 63].map(|bit| 1 << bit | form));
+    let numbers = (39..=600).chain([0, 1 << 16, u32::MAX.into(), u64::MAX]);
+    let wide = (1..=38).flat_map(|form| [8, 16, 32, 63].map(|bit| 1 << bit | form));
     for form in numbers.chain(wide) {
         for way in [0, 1] {
             // Values of zeros, which are those of more than one form.
@@ -127,6 +127,11 @@ fn values_outside_their_kind() {
                 }
             }
         }
+    }
+    // Feedback has no values.
+    for (call, expected) in bad_feedback_calls() {
+        let answer = tally.compare_row(call.way, &call.row(), &call.open, call.output);
+        assert_eq!(answer, expected, "{call:?}");
     }
     println!(
         "values outside their kind: {fixed} selectors that a form decides, {wide} others, {only_read} of a 13\n{tally}"

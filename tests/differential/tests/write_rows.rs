@@ -2,7 +2,8 @@
 //! compares the same rows.
 
 use differential::{
-    edges, number, outside, valid_calls, Call, Random, WriteTally, BAD_ROW, OUTPUT, READ_ONLY, ROW_CELLS,
+    bad_feedback_calls, edges, number, outside, valid_calls, Call, Random, WriteTally, BAD_ROW, OUTPUT, READ_ONLY,
+    ROW_CELLS,
 };
 use yardstick::{Form, Row, Way};
 
@@ -85,6 +86,18 @@ fn answers_to_wide_values(call: &Call) -> Vec<u64> {
         Form::ValueFormat => vec![WIDE, seven(4), seven(5), seven(6), seven(7), WIDE, WIDE],
         Form::VirtualDisconnect => vec![seven(3), WIDE],
         Form::VirtualConnect => vec![seven(3), WIDE, WIDE],
+        // Degrees and the two speeds have lists, positions none.
+        Form::StartSpeedForDegrees => [&[WIDE][..], &[4, 5, 6, 10, 11, 12, 13, 14].map(seven)].concat(),
+        Form::GotoAbsolutePosition => {
+            let listed = [10, 11, 12, 13].map(seven);
+            [&[WIDE, seven(4), seven(5), WIDE][..], &listed].concat()
+        }
+        Form::GotoAbsolutePositions => {
+            let listed = [14, 15, 16, 17].map(seven);
+            [&[WIDE, seven(4), seven(5), WIDE, WIDE][..], &listed].concat()
+        }
+        Form::PresetEncoders => vec![WIDE, seven(4), seven(5), WIDE, WIDE],
+        Form::OutputFeedback => vec![],
     }
 }
 
@@ -103,6 +116,13 @@ fn one_wide_value() {
             let expected = if number(expected) == 0 { 8 << 32 } else { expected };
             let answer = tally.compare_row(call.way, &row, &call.open, 2);
             assert_eq!(answer, expected, "value {index} of {call:?} without output");
+        }
+    }
+    // Feedback has no values.
+    for (call, expected) in bad_feedback_calls() {
+        for output in [OUTPUT, 2] {
+            let answer = tally.compare_row(call.way, &call.row(), &call.open, output);
+            assert_eq!(answer, expected, "{call:?}");
         }
     }
     println!("one wide value: {tally}");

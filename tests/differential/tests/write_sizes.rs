@@ -4,9 +4,13 @@ use differential::{valid_calls, Call, WriteTally, OUTPUT, READ_ONLY};
 use yardstick::examples::WRITING;
 use yardstick::{Form, Way};
 
-/// Open bytes of a length, neighbours different from each other.
+/// Open bytes of a length, neighbours different from each other. The second of each two is feedback.
 fn open(length: usize) -> Vec<u8> {
-    (0..length).map(|place| (place * 89 + 7) as u8).collect()
+    let byte = |place| (place * 89 + 7) as u8;
+    let is_feedback = |place: usize| place % 2 == 1;
+    (0..length)
+        .map(|place| byte(place) & if is_feedback(place) { 0x1F } else { 0xFF })
+        .collect()
 }
 
 /// Every number of open bytes up to 300, and some beyond that equal small ones in their low bits.
@@ -44,6 +48,8 @@ fn every_length_of_open_bytes() {
     tally.expect_forms([READ_ONLY], (301 + beyond.len() as u64) * 3);
     // Texts of 1 to 14 and of 1 to 122 bytes, names of 1 to 11, symbols of 1 to 5 and values of 1 to 123.
     tally.expect_numbers([0], 2 * (14 + 122 + 11 + 5 + 123));
+    // Three examples and the longest one, with 1 to 62 pairs and two outputs that have room.
+    assert_eq!(tally.seen_for(Form::OutputFeedback, 0), 4 * 62 * 2);
 }
 
 /// Every length of output from none to three bytes more than the message has, for accepted and for refused messages.

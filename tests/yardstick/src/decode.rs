@@ -2,7 +2,7 @@ use crate::decoded::Decoded;
 use crate::fields::Fields;
 use crate::refusal::Refusal;
 use crate::way::Way;
-use crate::{firmware, header, hub, hub_property, mode_information, port};
+use crate::{firmware, header, hub, hub_property, mode_information, output, port};
 
 /// Reads one message: its form and fields, or the first refusal in the order of the rules.
 pub fn decode(way: Way, message: &[u8]) -> Result<Decoded, Refusal> {
@@ -27,6 +27,8 @@ pub fn decode(way: Way, message: &[u8]) -> Result<Decoded, Refusal> {
         (0x45, Way::Up) => port::value(fields),
         (0x47, Way::Up) => port::input_format(fields),
         (0x61, Way::Down) => port::virtual_setup(fields),
+        (0x81, Way::Down) => output::command(fields),
+        (0x82, Way::Up) => output::feedback(fields),
         _ => Err(Refusal::MESSAGE_TYPE),
     }
 }

@@ -105,6 +105,28 @@ impl<'a> Fields<'a> {
         self.values.push(i64::from(i32::from_le_bytes(bytes)) as u64);
     }
 
+    /// Takes a signed byte that has a list.
+    pub(crate) fn signed_byte_in(&mut self, list: RangeInclusive<i64>) -> Result<(), Refusal> {
+        let place = self.place;
+        self.signed_byte();
+        self.expect_in(place, list)
+    }
+
+    /// Takes a signed number of four bytes that has a list.
+    pub(crate) fn signed_four_bytes_in(&mut self, list: RangeInclusive<i64>) -> Result<(), Refusal> {
+        let place = self.place;
+        self.signed_four_bytes();
+        self.expect_in(place, list)
+    }
+
+    /// Judges the signed number that was taken last, from this place on.
+    fn expect_in(&self, place: usize, list: RangeInclusive<i64>) -> Result<(), Refusal> {
+        match self.values.as_slice() {
+            [.., number] if list.contains(&(*number as i64)) => Ok(()),
+            _ => Err(Refusal::field(place)),
+        }
+    }
+
     /// Takes six bytes, the most significant first.
     pub(crate) fn six_bytes(&mut self) {
         let [a, b, c, d, e, f] = self.take();

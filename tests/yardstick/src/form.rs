@@ -68,11 +68,21 @@ pub enum Form {
     VirtualDisconnect = 32,
     /// 61, sub 1.
     VirtualConnect = 33,
+    /// 81, sub 0C.
+    StartSpeedForDegrees = 34,
+    /// 81, sub 0D.
+    GotoAbsolutePosition = 35,
+    /// 81, sub 0E.
+    GotoAbsolutePositions = 36,
+    /// 81, sub 14.
+    PresetEncoders = 37,
+    /// 82.
+    OutputFeedback = 38,
 }
 
 impl Form {
     /// How many forms there are; their numbers run from 1 to this one.
-    pub const COUNT: usize = Form::VirtualConnect as usize;
+    pub const COUNT: usize = Form::OutputFeedback as usize;
 
     /// Every form, in the order of their numbers.
     pub const ALL: [Form; Form::COUNT] = [
@@ -109,6 +119,11 @@ impl Form {
         Form::InputFormat,
         Form::VirtualDisconnect,
         Form::VirtualConnect,
+        Form::StartSpeedForDegrees,
+        Form::GotoAbsolutePosition,
+        Form::GotoAbsolutePositions,
+        Form::PresetEncoders,
+        Form::OutputFeedback,
     ];
 
     /// The form's number.

@@ -92,6 +92,31 @@ impl Form {
             Form::PortValue => &[Byte],
             Form::VirtualDisconnect => &[Fixed(0), Byte],
             Form::VirtualConnect => &[Fixed(1), Byte, Byte],
+            Form::StartSpeedForDegrees => &[
+                Byte,
+                Byte,
+                Fixed(0x0C),
+                SignedFourBytes,
+                SignedByte,
+                SignedByte,
+                Byte,
+                Byte,
+                Byte,
+            ],
+            Form::GotoAbsolutePosition => &[Byte, Byte, Fixed(0x0D), SignedFourBytes, Byte, Byte, Byte, Byte],
+            Form::GotoAbsolutePositions => &[
+                Byte,
+                Byte,
+                Fixed(0x0E),
+                SignedFourBytes,
+                SignedFourBytes,
+                Byte,
+                Byte,
+                Byte,
+                Byte,
+            ],
+            Form::PresetEncoders => &[Byte, Byte, Fixed(0x14), SignedFourBytes, SignedFourBytes],
+            Form::OutputFeedback => &[],
         }
     }
 }

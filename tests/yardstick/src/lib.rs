@@ -2,8 +2,8 @@
 //!
 //! [`decode`] reads one message of LEGO Wireless Protocol 3.0, and [`encode`] writes one; [`write_row`] does it by the
 //! numbers of a row. [`Table`] is a port table for one hub, [`MessageList`] the reader without a table, and [`read_log`]
-//! the log reader. The tests in `differential` compare their answers with those of the product. [`traffic`] and [`make_log`] make messages and logs to try them
-//! with.
+//! the log reader. The tests in `differential` compare their answers with those of the product. [`traffic`] and
+//! [`make_log`] make messages and logs to try them with.
 
 mod answer;
 mod decode;
@@ -23,6 +23,7 @@ mod log;
 pub mod make_log;
 mod message;
 mod mode_information;
+mod output;
 mod port;
 mod random;
 mod refusal;

@@ -145,3 +145,46 @@ pub(crate) fn is_notify(notify: u8) -> bool {
 pub(crate) fn is_sub(sub: u8) -> bool {
     sub <= 1
 }
+
+/// The subs of an output command that are covered: StartSpeedForDegrees, GotoAbsolutePosition for one motor and for
+/// two, PresetEncoder for two.
+pub(crate) fn is_motor_sub(sub: u8) -> bool {
+    matches!(sub, 0x0C | 0x0D | 0x0E | 0x14)
+}
+
+/// Startup in the high half, completion in the low one.
+pub(crate) fn is_start(start: u8) -> bool {
+    let [startup, completion] = [start / 16, start % 16];
+    startup <= 1 && completion <= 1
+}
+
+/// The degrees to turn. The direction is not theirs.
+pub(crate) const DEGREES: RangeInclusive<i64> = 0..=10_000_000;
+
+/// The speeds of two motors in percent, their sign the direction.
+pub(crate) const SIGNED_SPEEDS: RangeInclusive<i64> = -100..=100;
+
+/// The speed in percent of motors that go to a position.
+pub(crate) fn is_speed(speed: u8) -> bool {
+    matches!(speed, 1..=100)
+}
+
+/// The greatest power in percent.
+pub(crate) fn is_power(power: u8) -> bool {
+    power <= 100
+}
+
+/// What motors do at the end: float, hold, brake.
+pub(crate) fn is_end_state(end_state: u8) -> bool {
+    matches!(end_state, 0 | 126 | 127)
+}
+
+/// The profiles in use: a bit for acceleration, a bit for deceleration.
+pub(crate) fn is_profile(profile: u8) -> bool {
+    profile <= 3
+}
+
+/// Five bits of feedback.
+pub(crate) fn is_feedback(feedback: u8) -> bool {
+    feedback <= 0x1F
+}

@@ -44,6 +44,8 @@ impl Refusal {
     pub const NOT_FINITE: Refusal = Refusal::new(18, 0);
     /// A log record is malformed.
     pub const LOG_RECORD: Refusal = Refusal::new(19, 0);
+    /// A command for two motors names a port that isn't virtual.
+    pub const NOT_VIRTUAL: Refusal = Refusal::new(22, 0);
     /// The type is one that is read and no longer written.
     pub const READ_ONLY: Refusal = Refusal::new(23, 0);
     /// The one number that isn't in the list of refusals: the cells lent for an answer are too few, or the row given to

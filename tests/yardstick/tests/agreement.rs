@@ -11,7 +11,7 @@ struct Both {
     table: Table,
     list: MessageList,
     /// How often each number came, 0 for acceptance.
-    numbers: [u64; 20],
+    numbers: [u64; 24],
     /// How many datasets were negative.
     negative: u64,
     experiments: ExperimentTally,
@@ -101,7 +101,7 @@ impl Both {
             "{name}: {:?}, {} negative datasets\nexperiments: {}",
             self.numbers, self.negative, self.experiments
         );
-        for number in 10..=18 {
+        for number in (10..=18).chain([22]) {
             let seen = self.numbers[number];
             assert!(seen >= least, "{number} came {seen} times, not {least}");
         }

@@ -136,9 +136,9 @@ fn selectors_that_do_not_fit() {
         }
     }
     println!("selectors that don't fit: {messages} messages");
-    // 01 and 03 both ways, and 04 and 43 up: none or one byte of two. 02 both ways, and 61 down: none of one. 44 up:
-    // none, one or two of three.
-    assert_eq!(messages, 6 * (1 + 256) + 3 + (1 + 256 + 65_536));
+    // 01 and 03 both ways, and 04 and 43 up: none or one byte of two. 02 both ways, and 61 down: none of one. 44 up and
+    // 81 down: none, one or two of three.
+    assert_eq!(messages, 6 * (1 + 256) + 3 + 2 * (1 + 256 + 65_536));
 }
 
 /// Every form with every number of open bytes: 6 tells the smallest size of the form. That is the length of what is
@@ -154,7 +154,8 @@ fn every_number_of_open_bytes() {
             values[2] = 1;
         }
         let message = Message::new(form, &values).expect("the values of an example");
-        let written = |open: usize| encode(example.way, message, &vec![b'x'; open]);
+        // Each is feedback too.
+        let written = |open: usize| encode(example.way, message, &vec![0x1F; open]);
         if READ_ONLY.contains(&form) {
             let only_read = Refusal { number: 23, place: 0 };
             assert!((0..=MOST_OPEN).all(|open| written(open) == Err(only_read)), "{form:?}");

@@ -4,7 +4,7 @@ use std::fmt;
 use yardstick::{Dataset, ExperimentTally, Offered, Port, Refusal, Table, Value, Wiring};
 
 /// How many numbers answers have: 0 for acceptance and the refusals.
-const NUMBERS: usize = 20;
+const NUMBERS: usize = 24;
 
 /// Counts what was compared.
 #[derive(Default)]

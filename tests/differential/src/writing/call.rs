@@ -41,7 +41,7 @@ impl Call {
     }
 }
 
-/// Messages that reading accepts: the examples of every form, and the longest texts and values.
+/// Messages that reading accepts: the examples of every form, and the longest texts, values and feedback.
 pub fn valid_messages() -> Vec<(Way, Vec<u8>)> {
     let mut messages: Vec<(Way, Vec<u8>)> = FORMS.iter().map(|it| (it.way, it.bytes())).collect();
     for start in [[0x7F, 0, 0x01, 8, 6], [0x7F, 0, 0x01, 9, 6], [0x7F, 0, 0x45, 0, 0]] {
@@ -49,7 +49,33 @@ pub fn valid_messages() -> Vec<(Way, Vec<u8>)> {
         message.extend(0x83..=0xFC);
         messages.push((Way::Up, message));
     }
+    messages.push((Way::Up, longest_feedback()));
     messages
+}
+
+/// Feedback about 62 ports, each with other bits than the next.
+fn longest_feedback() -> Vec<u8> {
+    let mut message = vec![0x7F, 0, 0x82];
+    message.extend((0..62).flat_map(|pair| [0xFF - pair, pair % 32]));
+    message
+}
+
+/// Calls that write feedback of which one byte is outside its list, with their answers by hand.
+pub fn bad_feedback_calls() -> Vec<(Call, u64)> {
+    let mut calls = Vec::new();
+    for valid in valid_calls()
+        .into_iter()
+        .filter(|call| call.form == Form::OutputFeedback)
+    {
+        for index in (1..valid.open.len()).step_by(2) {
+            for byte in [32, 127, 128, 255] {
+                let mut call = valid.clone();
+                call.open[index] = byte;
+                calls.push((call, 7 << 32 | (3 + index as u64)));
+            }
+        }
+    }
+    calls
 }
 
 /// Calls that write these. All are accepted but those of the types that are only read.

@@ -5,7 +5,7 @@ mod edges;
 mod random_calls;
 mod tally;
 
-pub use call::{valid_calls, valid_messages, Call, OUTPUT};
+pub use call::{bad_feedback_calls, valid_calls, valid_messages, Call, OUTPUT};
 pub use edges::{edges, outside};
 pub use random_calls::{any_call, near_call};
 pub use tally::WriteTally;

@@ -27,8 +27,19 @@ pub fn near_call(random: &mut Random) -> Call {
     call
 }
 
+/// Values of the commands for motors, most of whose fields have lists.
+const MOTORS: [(Form, &[u64]); 4] = [
+    (Form::StartSpeedForDegrees, &[0x10, 0x11, 0x0C, 360, 50, 1, 100, 126, 3]),
+    (Form::GotoAbsolutePosition, &[0x10, 0x11, 0x0D, 360, 50, 100, 126, 3]),
+    (
+        Form::GotoAbsolutePositions,
+        &[0x10, 0x11, 0x0E, 360, 1, 50, 100, 126, 3],
+    ),
+    (Form::PresetEncoders, &[0x10, 0x11, 0x14, 360, 1]),
+];
+
 /// Makes a random call of any form, whose values are any of their kinds, with small ones often. The selectors that the
-/// form decides are others now and then.
+/// form decides are others now and then. Most values of the commands for motors are right ones.
 pub fn any_call(random: &mut Random) -> Call {
     let form = random.one_of(&Form::ALL);
     let value = |&kind: &Kind| match kind {
@@ -36,7 +47,14 @@ pub fn any_call(random: &mut Random) -> Call {
         Kind::Fixed(_) if random.once_in(4) => u64::from(random.byte() & random.one_of(&[0xFF, 0x0F, 0x03])),
         _ => of_kind(random, kind),
     };
-    let values = form.kinds().iter().map(value).collect();
+    let mut values: Vec<u64> = form.kinds().iter().map(value).collect();
+    if let Some((_, right)) = MOTORS.iter().find(|(motor, _)| *motor == form) {
+        for (value, right) in values.iter_mut().zip(*right) {
+            if !random.once_in(8) {
+                *value = *right;
+            }
+        }
+    }
     let mut call = Call {
         way: random.one_of(&Way::BOTH),
         form,
@@ -44,8 +62,16 @@ pub fn any_call(random: &mut Random) -> Call {
         open: Vec::new(),
         output: random.one_of(&[OUTPUT, OUTPUT, 21, 10, 5]),
     };
-    if matches!(form, Form::PropertyText | Form::ModeText | Form::PortValue) || random.once_in(8) {
+    let has_open = matches!(
+        form,
+        Form::PropertyText | Form::ModeText | Form::PortValue | Form::OutputFeedback
+    );
+    if has_open || random.once_in(8) {
         resize_open(random, &mut call.open, 16);
+    }
+    // Most bytes are no feedback.
+    if form == Form::OutputFeedback && random.once_in(2) {
+        call.open.iter_mut().for_each(|byte| *byte &= 0x1F);
     }
     call
 }

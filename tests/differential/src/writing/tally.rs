@@ -158,6 +158,7 @@ fn can_get(form: Form, number: usize) -> bool {
                 | Form::AlertCommand
                 | Form::AlertUpdate
                 | Form::GoIntoBootMode
+                | Form::OutputFeedback
         ),
         _ => true,
     }

@@ -1,3 +1,6 @@
+use std::ops::RangeInclusive;
+
+use crate::lists;
 use crate::refusal::Refusal;
 
 /// The bytes of a message to be written, laid down from left to right. A field with a list is judged at its place, and a
@@ -49,6 +52,29 @@ impl Bytes {
     /// Four bytes with a sign, the least significant first.
     pub(super) fn signed_four_bytes(&mut self, value: u64) {
         self.signed(value, 4);
+    }
+
+    /// A signed byte that has a list.
+    pub(super) fn signed_byte_in(&mut self, value: u64, list: RangeInclusive<i64>) -> Result<(), Refusal> {
+        self.expect(list.contains(&(value as i64)))?;
+        self.signed_byte(value);
+        Ok(())
+    }
+
+    /// Four bytes with a sign and a list.
+    pub(super) fn signed_four_bytes_in(&mut self, value: u64, list: RangeInclusive<i64>) -> Result<(), Refusal> {
+        self.expect(list.contains(&(value as i64)))?;
+        self.signed_four_bytes(value);
+        Ok(())
+    }
+
+    /// Pairs of port and feedback, of which the feedback has a list.
+    pub(super) fn pairs(&mut self, pairs: &[u8]) -> Result<(), Refusal> {
+        for pair in pairs.chunks_exact(2) {
+            self.byte(pair[0].into());
+            self.byte_of(pair[1].into(), lists::is_feedback)?;
+        }
+        Ok(())
     }
 
     /// Six bytes, the most significant first.

@@ -6,7 +6,7 @@ use crate::way::Way;
 pub(super) fn judge_way(way: Way, form: Form) -> Result<(), Refusal> {
     let goes = match message_type(form) {
         0x01..=0x03 => true,
-        0x04 | 0x05 | 0x13 | 0x43..=0x47 => way == Way::Up,
+        0x04 | 0x05 | 0x13 | 0x43..=0x47 | 0x82 => way == Way::Up,
         _ => way == Way::Down,
     };
     if goes {
@@ -55,5 +55,10 @@ pub(super) fn message_type(form: Form) -> u8 {
         Form::PortValue => 0x45,
         Form::InputFormat => 0x47,
         Form::VirtualDisconnect | Form::VirtualConnect => 0x61,
+        Form::StartSpeedForDegrees
+        | Form::GotoAbsolutePosition
+        | Form::GotoAbsolutePositions
+        | Form::PresetEncoders => 0x81,
+        Form::OutputFeedback => 0x82,
     }
 }

@@ -34,6 +34,7 @@ pub(super) fn judge(way: Way, message: Message) -> Result<(), Refusal> {
             (5, form_of_mode_information(information_type))
         }
         (0x61, &[sub, ..]) => (3, form_of_sub(listed(sub, 3, lists::is_sub)?)),
+        (0x81, &[_, _, sub, ..]) => (5, form_of_motor_sub(listed(sub, 5, lists::is_motor_sub)?)),
         // The other types have no selector.
         _ => return Ok(()),
     };
@@ -106,5 +107,14 @@ fn form_of_sub(sub: u8) -> Form {
         Form::VirtualDisconnect
     } else {
         Form::VirtualConnect
+    }
+}
+
+fn form_of_motor_sub(sub: u8) -> Form {
+    match sub {
+        0x0C => Form::StartSpeedForDegrees,
+        0x0D => Form::GotoAbsolutePosition,
+        0x0E => Form::GotoAbsolutePositions,
+        _ => Form::PresetEncoders,
     }
 }

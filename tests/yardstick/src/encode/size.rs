@@ -11,7 +11,7 @@ use crate::refusal::Refusal;
 /// size of the form with as few open bytes, and as few entries, as it may have.
 pub(super) fn judge(message: Message, open: &[u8]) -> Result<(), Refusal> {
     let lengths = open_lengths(message);
-    if lengths.contains(&open.len()) && has_entries(message) {
+    if lengths.contains(&open.len()) && has_whole_pairs(message, open) && has_entries(message) {
         Ok(())
     } else {
         let fields = width_of_fields(message.form());
@@ -26,8 +26,15 @@ fn open_lengths(message: Message) -> RangeInclusive<usize> {
         (Form::ModeText, &[_, _, information_type]) => lists::mode_text_lengths(information_type as u8),
         // A message of 127 bytes has room for 123 after its port.
         (Form::PortValue, _) => 1..=123,
+        // And for 62 pairs after its header.
+        (Form::OutputFeedback, _) => 2..=124,
         _ => 0..=0,
     }
+}
+
+/// Whether the open bytes of feedback are pairs. Those of other forms may be any number.
+fn has_whole_pairs(message: Message, open: &[u8]) -> bool {
+    message.form() != Form::OutputFeedback || open.len().is_multiple_of(2)
 }
 
 /// Whether the count of a 43 is that of a list. Other forms have none.

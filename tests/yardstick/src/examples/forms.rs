@@ -96,4 +96,30 @@ pub const FORMS: &[Example] = &[
     // 61.
     accepted(Down, "05 00 61 00 10", Form::VirtualDisconnect, &[0, 0x10]),
     accepted(Down, "06 00 61 01 04 05", Form::VirtualConnect, &[1, 4, 5]),
+    // 81: degrees, two speeds, power, end state and profile. 360 degrees there and back; the least; the most.
+    accepted(Down, "0F 00 81 10 11 0C 68 01 00 00 32 CE 64 7E 03",
+        Form::StartSpeedForDegrees, &[0x10, 0x11, 0x0C, 360, 50, -50_i64 as u64, 100, 126, 3]),
+    accepted(Down, "0F 00 81 00 00 0C 00 00 00 00 9C 9C 00 00 00",
+        Form::StartSpeedForDegrees, &[0, 0, 0x0C, 0, -100_i64 as u64, -100_i64 as u64, 0, 0, 0]),
+    accepted(Down, "0F 00 81 FF 10 0C 80 96 98 00 64 64 64 7F 03",
+        Form::StartSpeedForDegrees, &[255, 0x10, 0x0C, 10_000_000, 100, 100, 100, 127, 3]),
+    // 81: a position, speed, power, end state and profile.
+    accepted(Down, "0E 00 81 03 01 0D 04 03 02 81 01 64 7F 02",
+        Form::GotoAbsolutePosition, &[3, 0x01, 0x0D, -0x7EFD_FCFC_i64 as u64, 1, 100, 127, 2]),
+    accepted(Down, "0E 00 81 00 10 0D FF FF FF 7F 64 00 00 01",
+        Form::GotoAbsolutePosition, &[0, 0x10, 0x0D, 0x7FFF_FFFF, 100, 0, 0, 1]),
+    // 81: two positions, speed, power, end state and profile.
+    accepted(Down, "12 00 81 10 11 0E 5A 00 00 00 A6 FF FF FF 32 64 7E 03",
+        Form::GotoAbsolutePositions, &[0x10, 0x11, 0x0E, 90, -90_i64 as u64, 50, 100, 126, 3]),
+    accepted(Down, "12 00 81 11 00 0E 00 00 00 80 FF FF FF 7F 01 00 00 00",
+        Form::GotoAbsolutePositions, &[0x11, 0, 0x0E, -0x8000_0000_i64 as u64, 0x7FFF_FFFF, 1, 0, 0, 0]),
+    // 81: two positions of encoders.
+    accepted(Down, "0E 00 81 10 11 14 FD FF FF FF 04 03 02 01",
+        Form::PresetEncoders, &[0x10, 0x11, 0x14, -3_i64 as u64, 0x0102_0304]),
+    accepted(Down, "0E 00 81 39 01 14 00 00 00 00 00 00 00 80",
+        Form::PresetEncoders, &[0x39, 0x01, 0x14, 0, -0x8000_0000_i64 as u64]),
+    // 82: one pair of port and feedback, three, and four with a port twice.
+    with_open(Up, "05 00 82 10 0A", Form::OutputFeedback, &[], 3..5),
+    with_open(Up, "09 00 82 00 01 FF 1F 10 00", Form::OutputFeedback, &[], 3..9),
+    with_open(Up, "0B 00 82 01 02 01 04 00 08 02 10", Form::OutputFeedback, &[], 3..11),
 ];

@@ -1,5 +1,8 @@
 use super::bytes;
-use super::messages::{ANSWER_2 as ANSWER, ASK_2 as ASK, ATTACH_0 as ATTACH, FORMAT_2 as FORMAT, VALUE_4 as VALUE};
+use super::messages::{
+    ANSWER_2 as ANSWER, ASK_2 as ASK, ATTACH_0 as ATTACH, ATTACH_1, FORMAT_2 as FORMAT, GO_0, GO_10, PRESET_10, TURN_0,
+    TURN_10, VALUE_4 as VALUE, VIRTUAL_10,
+};
 use crate::log::LOG_RECORD;
 
 /// A log with the lines that are printed of it.
@@ -129,6 +132,19 @@ pub const LOGS: &[LogExample] = &[
             ("01 00 00 00", "0E 00 04 00 01 26 00 00 00 00 10 00 00 00"), ("01 00 00 00", VALUE),
         ],
         lines: "1 6\n2 6\n3 6\n4 6\n5 6\n6 6\n7 6\n8 6\n9 6\n10 10\ntotal 10 refused 10\n",
+    },
+    LogExample {
+        name: "commands for motors and their feedback, which have no number of an experiment",
+        records: &[
+            ("01 00 00 00", ATTACH), ("01 00 00 00", ATTACH_1), ("01 00 00 00", FORMAT), ("00 00 09 00", ASK),
+            ("01 00 00 00", ANSWER), ("00 00 05 00", TURN_10), ("00 00 05 00", TURN_0), ("00 00 05 00", GO_0),
+            ("01 00 00 00", VIRTUAL_10), ("00 00 05 00", TURN_10), ("00 00 05 00", GO_10), ("00 00 05 00", PRESET_10),
+            ("00 00 05 00", TURN_0), ("01 00 05 00", "07 00 82 10 0A 00 01"), ("01 00 05 00", "07 00 82 10 0A 02 01"),
+            ("01 00 05 00", "07 00 82 63 0A 00 20"), ("01 00 05 00", "06 00 82 10 0A 00"), ("01 00 05 00", GO_0),
+            ("00 00 05 00", "09 00 81 00 11 07 3C 64 00"), ("01 00 05 00", VALUE),
+        ],
+        lines: "1 0\n2 0\n3 0\n4 0\n5 0\n6 10\n7 22\n8 0\n9 0\n10 0\n11 0\n12 0\n13 22\n14 0\n15 10\n16 7\n17 6\n\
+                18 5\n19 7\n20 0 0 2 2 9 5\ntotal 20 refused 8\n",
     },
     LogExample {
         name: "bytes 6 and 7 are not looked at by refusal 19, byte 5 is",

@@ -19,6 +19,16 @@ pub(super) const ANSWER_0: &str = "0A 00 47 00 00 01 00 00 00 01";
 pub(super) const FORMAT_2: &str = "0A 00 44 00 02 80 01 02 04 00";
 pub(super) const FORMAT_0: &str = "0A 00 44 00 00 80 01 00 03 00";
 
+// Commands for motors: both motors of port 10 turn by 360 degrees, go to 90 and -90, and are set to 0; the same to port
+// 0; port 0 goes to -3.
+pub(super) const TURN_10: &str = "0F 00 81 10 11 0C 68 01 00 00 32 CE 64 7E 03";
+pub(super) const GO_10: &str = "12 00 81 10 11 0E 5A 00 00 00 A6 FF FF FF 32 64 7E 03";
+pub(super) const PRESET_10: &str = "0E 00 81 10 11 14 00 00 00 00 00 00 00 00";
+pub(super) const TURN_0: &str = "0F 00 81 00 11 0C 68 01 00 00 32 CE 64 7E 03";
+pub(super) const GO_BOTH_0: &str = "12 00 81 00 11 0E 5A 00 00 00 A6 FF FF FF 32 64 7E 03";
+pub(super) const PRESET_0: &str = "0E 00 81 00 11 14 00 00 00 00 00 00 00 00";
+pub(super) const GO_0: &str = "0E 00 81 00 11 0D FD FF FF FF 32 64 7E 03";
+
 // Values of port 0: one byte, and four.
 pub(super) const VALUE_1: &str = "05 00 45 00 FE";
 pub(super) const VALUE_4: &str = "08 00 45 00 05 00 00 00";

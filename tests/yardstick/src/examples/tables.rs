@@ -1,6 +1,6 @@
 use super::messages::{
-    ANSWER_0, ANSWER_2, ASK_0, ASK_2, ATTACH_0, ATTACH_1, ATTACH_2, ATTACH_3, FORMAT_0, FORMAT_2, VALUE_1, VALUE_4,
-    VIRTUAL_10,
+    ANSWER_0, ANSWER_2, ASK_0, ASK_2, ATTACH_0, ATTACH_1, ATTACH_2, ATTACH_3, FORMAT_0, FORMAT_2, GO_0, GO_10,
+    GO_BOTH_0, PRESET_0, PRESET_10, TURN_0, TURN_10, VALUE_1, VALUE_4, VIRTUAL_10,
 };
 use super::table_step::{
     absent, accepted, bare, format, handed_out, no_format, refused, set_up, setup, withheld, TableExample,
@@ -344,6 +344,69 @@ pub const TABLES: &[TableExample] = &[
         // Other information about a mode is no format.
         accepted(Up, "07 00 44 00 01 07 01"),
         no_format(0, 1),
+    ] },
+    TableExample { name: "commands for two motors go to virtual ports alone", steps: &[
+        refused(Down, TURN_10, 10, 0),
+        refused(Down, GO_10, 10, 0),
+        refused(Down, PRESET_10, 10, 0),
+        refused(Down, GO_0, 10, 0),
+        refused(Down, TURN_0, 10, 0),
+        accepted(Up, ATTACH_0),
+        accepted(Up, ATTACH_1),
+        // Physical and unjoined.
+        refused(Down, TURN_0, 22, 0),
+        refused(Down, GO_BOTH_0, 22, 0),
+        refused(Down, PRESET_0, 22, 0),
+        accepted(Down, GO_0),
+        accepted(Up, VIRTUAL_10),
+        // Physical and joined.
+        refused(Down, TURN_0, 22, 0),
+        refused(Down, GO_BOTH_0, 22, 0),
+        refused(Down, PRESET_0, 22, 0),
+        accepted(Down, GO_0),
+        // Virtual.
+        accepted(Down, TURN_10),
+        accepted(Down, GO_10),
+        accepted(Down, PRESET_10),
+        accepted(Down, "0E 00 81 10 11 0D FD FF FF FF 32 64 7E 03"),
+        // Reading comes first, whatever the port is.
+        refused(Down, "0F 00 81 00 22 0C 68 01 00 00 32 CE 64 7E 03", 7, 4),
+        refused(Down, "0F 00 81 63 11 0C 68 01 00 80 32 CE 64 7E 03", 7, 6),
+        refused(Down, "0E 00 81 63 11 0C 68 01 00 00 32 CE 64 7E", 6, 15),
+        refused(Down, "09 00 81 63 11 07 3C 64 00", 7, 5),
+        withheld(Down, TURN_10, 0, 17, 0),
+        withheld(Down, GO_0, 3, 17, 0),
+        withheld(Down, TURN_0, 0, 22, 0),
+        withheld(Down, "0E 00 81 63 11 14 00 00 00 00 00 00 00 00", 0, 10, 0),
+        // Nothing of that was done.
+        bare(0, OF_10),
+        bare(1, OF_10),
+        bare(0x10, MEMBERS_0_1),
+        accepted(Up, "05 00 04 10 00"),
+        refused(Down, GO_10, 10, 0),
+    ] },
+    TableExample { name: "feedback wants every port that it names present", steps: &[
+        refused(Up, "05 00 82 00 0A", 10, 0),
+        accepted(Up, ATTACH_0),
+        accepted(Up, ATTACH_1),
+        accepted(Up, VIRTUAL_10),
+        accepted(Up, "05 00 82 00 0A"),
+        accepted(Up, "05 00 82 10 00"),
+        accepted(Up, "0B 00 82 00 01 01 02 10 1F 00 04"),
+        refused(Up, "05 00 82 63 0A", 10, 0),
+        refused(Up, "07 00 82 63 01 00 02", 10, 0),
+        refused(Up, "07 00 82 00 01 63 02", 10, 0),
+        refused(Up, "0B 00 82 00 01 01 02 10 1F 63 04", 10, 0),
+        // All fields come before any port.
+        refused(Up, "07 00 82 63 01 00 20", 7, 6),
+        refused(Up, "07 00 82 63 20 63 20", 7, 4),
+        refused(Up, "06 00 82 63 20 00", 6, 5),
+        withheld(Up, "05 00 82 00 0A", 0, 17, 0),
+        withheld(Up, "05 00 82 63 0A", 0, 10, 0),
+        withheld(Up, "07 00 82 63 01 00 20", 1, 7, 6),
+        bare(0, OF_10),
+        bare(1, OF_10),
+        bare(0x10, MEMBERS_0_1),
     ] },
     TableExample { name: "ports are told apart", steps: &[
         accepted(Up, ATTACH_0),

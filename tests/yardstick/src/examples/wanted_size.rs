@@ -40,11 +40,16 @@ pub fn smallest_size(form: Form) -> usize {
         Form::InputFormat => 10,
         Form::VirtualDisconnect => 5,
         Form::VirtualConnect => 6,
+        Form::StartSpeedForDegrees => 15,
+        Form::GotoAbsolutePosition => 14,
+        Form::GotoAbsolutePositions => 18,
+        Form::PresetEncoders => 14,
+        Form::OutputFeedback => 5,
     }
 }
 
 /// The types that have selectors, each with the smallest size that holds them: the place of the last one, and one.
-pub const SELECTOR_SIZES: [(u8, usize); 7] = [
+pub const SELECTOR_SIZES: [(u8, usize); 8] = [
     (0x01, 5),
     (0x02, 4),
     (0x03, 5),
@@ -52,6 +57,7 @@ pub const SELECTOR_SIZES: [(u8, usize); 7] = [
     (0x43, 5),
     (0x44, 6),
     (0x61, 4),
+    (0x81, 6),
 ];
 
 /// The form that the type and the selectors of a message lead to, none where the selectors don't fit. The message's
@@ -94,6 +100,11 @@ pub fn selected_form(way: Way, message: &[u8]) -> Option<Form> {
         (Up, [0x47, ..]) => Form::InputFormat,
         (Down, [0x61, 0, ..]) => Form::VirtualDisconnect,
         (Down, [0x61, 1, ..]) => Form::VirtualConnect,
+        (Down, [0x81, _, _, 0x0C, ..]) => Form::StartSpeedForDegrees,
+        (Down, [0x81, _, _, 0x0D, ..]) => Form::GotoAbsolutePosition,
+        (Down, [0x81, _, _, 0x0E, ..]) => Form::GotoAbsolutePositions,
+        (Down, [0x81, _, _, 0x14, ..]) => Form::PresetEncoders,
+        (Up, [0x82, ..]) => Form::OutputFeedback,
         _ => panic!("{message:02X?} {way:?} has another type or other selectors"),
     })
 }
@@ -109,6 +120,8 @@ pub fn has_right_size(way: Way, message: &[u8]) -> bool {
         Some(Form::ModeText) if message[5] == 0 => (7..=17).contains(&size),
         Some(Form::ModeText) => (7..=11).contains(&size),
         Some(Form::PortValue) => (5..=127).contains(&size),
+        // A header and pairs.
+        Some(Form::OutputFeedback) => (5..=127).contains(&size) && size % 2 == 1,
         Some(form) => size == smallest_size(form),
     }
 }

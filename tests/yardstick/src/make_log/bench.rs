@@ -1,6 +1,6 @@
 use std::collections::VecDeque;
 
-use super::devices::{Device, DEVICES};
+use super::devices::{Device, DEVICES, MOTOR_DEVICE};
 use crate::form::Form;
 use crate::log::{log_record, LOG_RECORD};
 use crate::random::Random;
@@ -98,6 +98,7 @@ impl Bench {
             51..=60 => self.begin_experiment(),
             61..=90 => self.tell_about_hub(),
             91..=93 => self.spoil(),
+            94..=123 => self.drive(),
             _ => {
                 let index = self.any(Link::sends);
                 self.value(index);
@@ -216,6 +217,42 @@ impl Bench {
         let taken = if self.random.once_in(10) { delta + 1 } else { delta };
         self.up(Form::InputFormat, &[port, number, taken, 1]);
         self.links[index].mode = Some(mode);
+    }
+
+    /// The client drives both motors by the virtual port, or a motor alone, and the hub tells how far they are. Some
+    /// clients ask for both by a port that isn't virtual.
+    fn drive(&mut self) {
+        let index = self.any(|link| link.is_attached && link.device.device == MOTOR_DEVICE);
+        let Device { port, members, .. } = *self.links[index].device;
+        let port = u64::from(port);
+        let speed = self.random.between(1, 100) as u64;
+        let [position_1, position_2] = [0, 0].map(|_: u64| (self.random.below(2001) as i64 - 1000) as u64);
+        let end = [100, self.random.one_of(&[0, 126, 127]), 3];
+        let for_two = members.is_some() || self.random.once_in(20);
+        let sub = if for_two { self.random.below(4) } else { 0 };
+        let (form, values) = match sub {
+            0 => (
+                Form::GotoAbsolutePosition,
+                [&[port, 0x11, 0x0D, position_1, speed][..], &end].concat(),
+            ),
+            1 => {
+                let go = [port, 0x11, 0x0E, position_1, position_2, speed];
+                (Form::GotoAbsolutePositions, [&go[..], &end].concat())
+            }
+            2 => {
+                let degrees = self.random.between(0, 720) as u64;
+                let turn = [port, 0x11, 0x0C, degrees, speed, speed.wrapping_neg()];
+                (Form::StartSpeedForDegrees, [&turn[..], &end].concat())
+            }
+            _ => (Form::PresetEncoders, vec![port, 0x11, 0x14, position_1, position_2]),
+        };
+        self.down(form, &values);
+        // In progress, then completed and idle.
+        for feedback in [0x01, 0x0A] {
+            let pairs = members.map_or(vec![port as u8], |[port_a, port_b]| vec![port as u8, port_a, port_b]);
+            let bytes: Vec<u8> = pairs.into_iter().flat_map(|port| [port, feedback]).collect();
+            self.up_open(Form::OutputFeedback, &[], &bytes);
+        }
     }
 
     fn tell_about_hub(&mut self) {

@@ -12,6 +12,9 @@ pub(super) struct Device {
     pub(super) modes: &'static [(u8, &'static [u8], [u8; 4])],
 }
 
+/// The device number of a motor with tacho, and of two that are joined.
+pub(super) const MOTOR_DEVICE: u16 = 0x0026;
+
 /// Motor with tacho: power, speed, position.
 const MOTOR: &[(u8, &[u8], [u8; 4])] = &[
     (2, b"POS", [1, 2, 11, 0]),
@@ -39,11 +42,15 @@ const fn external(port: u8, device: u16, modes: &'static [(u8, &'static [u8], [u
 
 /// All devices, a virtual port after its members.
 pub(super) const DEVICES: &[Device] = &[
-    external(0, 0x0026, MOTOR),
-    external(1, 0x0026, MOTOR),
+    external(0, MOTOR_DEVICE, MOTOR),
+    external(1, MOTOR_DEVICE, MOTOR),
     Device {
         members: Some([0, 1]),
-        ..internal(16, 0x0026, &[(2, b"POS", [2, 2, 11, 0]), (1, b"SPEED", [2, 0, 4, 0])])
+        ..internal(
+            16,
+            MOTOR_DEVICE,
+            &[(2, b"POS", [2, 2, 11, 0]), (1, b"SPEED", [2, 0, 4, 0])],
+        )
     },
     // Vision sensor: colour, distance, red green and blue, all together.
     external(

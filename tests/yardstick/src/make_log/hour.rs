@@ -149,7 +149,7 @@ impl Hour {
     /// the experiment, but for the voltage's.
     fn first_experiment(&mut self) {
         self.at(5, 0);
-        // Start motor A at a speed, and the hub's feedback that it runs. 5: types 81 and 82 are not covered.
+        // Start motor A at a speed. 7: that sub of 81 is not covered. Then the hub's feedback that it runs.
         self.raw(Way::Down, &[0x09, 0x00, 0x81, 0x00, 0x11, 0x07, 0x3C, 0x64, 0x00]);
         self.raw(Way::Up, &[0x05, 0x00, 0x82, 0x00, 0x01]);
         for (minute, [speed_a, speed_b], force, current) in [
@@ -199,7 +199,7 @@ impl Hour {
         self.time += 300;
         self.answer(MOTOR_A, POSITION, 5);
         self.wide(MOTOR_A, &[431_204]);
-        // Position 0 is where the motor stands now. 5, as above.
+        // Position 0 is where the motor stands now. 7, as above.
         self.raw(
             Way::Down,
             &[0x0B, 0x00, 0x81, 0x00, 0x11, 0x51, 0x02, 0x00, 0x00, 0x00, 0x00],

@@ -56,7 +56,7 @@ impl Opening {
         self.up(&[0x04, 0x00, 0x13, 0xFF]);
     }
 
-    /// Refusals 10, 11 and 12 too.
+    /// Refusals 10, 11, 12 and 22 too.
     fn ports(&mut self) {
         self.sent_up(Form::Detached, &[0, 0]); // 10
         self.attach(0);
@@ -65,11 +65,28 @@ impl Opening {
         self.sent_down(Form::VirtualConnect, &[1, 0, 1]);
         self.sent_up(Form::AttachedVirtual, &[16, 2, 0x26, 0, 0]); // 12
         self.sent_up(Form::AttachedVirtual, &[16, 2, 0x26, 0, 1]);
+        self.motors();
         self.sent_down(Form::VirtualDisconnect, &[0, 16]);
         self.sent_up(Form::Detached, &[16, 0]);
         self.sent_down(Form::PortInformationRequest, &[0, 1]);
         self.sent_up(Form::PortModes, &[0, 1, 7, 4, 15, 15]);
         self.sent_up(Form::PortCombinations, &[0, 2, 1, 3, 0, 0, 0, 0, 0, 0, 0]);
+    }
+
+    /// Both motors of port 16 are driven, one of them alone, and the hub tells how far they are.
+    fn motors(&mut self) {
+        let end = [100, 126, 3];
+        let turn = |port| [&[port, 0x11, 0x0C, 360, 50, -50_i64 as u64][..], &end].concat();
+        self.sent_down(Form::StartSpeedForDegrees, &turn(16));
+        self.sent_down(Form::StartSpeedForDegrees, &turn(0)); // 22
+        self.sent_down(
+            Form::GotoAbsolutePosition,
+            &[&[0, 0x11, 0x0D, -3_i64 as u64, 50][..], &end].concat(),
+        );
+        let go = [16, 0x11, 0x0E, 90, -90_i64 as u64, 50];
+        self.sent_down(Form::GotoAbsolutePositions, &[&go[..], &end].concat());
+        self.sent_down(Form::PresetEncoders, &[16, 0x11, 0x14, 0, 0]);
+        self.sent_up_open(Form::OutputFeedback, &[], &[16, 0x0A, 0, 0x01]);
     }
 
     fn mode_information(&mut self) {

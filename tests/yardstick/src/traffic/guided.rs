@@ -80,6 +80,8 @@ impl Traffic {
             Sort::Answer => self.answer(table),
             Sort::Value => self.port_value(table),
             Sort::Setup => self.virtual_setup(table),
+            Sort::Command => self.command(table),
+            Sort::Feedback => self.feedback(table),
             Sort::Information => self.information(table),
             Sort::Notice => {
                 let action = self.random.one_of(&[0x30, 0x31, 0x32]);
@@ -227,6 +229,70 @@ impl Traffic {
             (Form::VirtualDisconnect, vec![0, port.into()])
         };
         (Way::Down, compose(Way::Down, form, &values, &[]))
+    }
+
+    /// A command for motors, mostly a good one, to a port of any sort, rather a virtual one.
+    fn command(&mut self, table: &Table) -> (Way, Vec<u8>) {
+        let wiring = |port| table.port(port).map(|it| it.wiring);
+        let port = match self.random.below(8) {
+            0..=3 => self.rather(table, |port| matches!(wiring(port), Some(Wiring::Virtual { .. }))),
+            4 => self.rather(table, |port| matches!(wiring(port), Some(Wiring::Joined { .. }))),
+            5 | 6 => self.present(table),
+            _ => self.absent(table),
+        };
+        let common = |sub| [port.into(), 0x11, sub];
+        let [position_1, position_2] = [0, 0].map(|_: u64| self.random.number() as i32 as u64);
+        let end = [self.random.between(0, 100) as u64, 126, 3];
+        let speed = self.random.between(1, 100) as u64;
+        let (form, values) = match self.random.below(4) {
+            0 => {
+                let degrees = self.random.between(0, 10_000_000) as u64;
+                let turn = [degrees, speed, speed.wrapping_neg()];
+                (Form::StartSpeedForDegrees, [common(0x0C), turn, end].concat())
+            }
+            1 => {
+                let values = [&common(0x0D)[..], &[position_1, speed], &end].concat();
+                (Form::GotoAbsolutePosition, values)
+            }
+            2 => {
+                let values = [common(0x0E), [position_1, position_2, speed], end].concat();
+                (Form::GotoAbsolutePositions, values)
+            }
+            _ => {
+                let values = [&common(0x14)[..], &[position_1, position_2]].concat();
+                (Form::PresetEncoders, values)
+            }
+        };
+        (Way::Down, compose(Way::Down, form, &values, &[]))
+    }
+
+    /// Feedback about one or more ports, most of them present.
+    fn feedback(&mut self, table: &Table) -> (Way, Vec<u8>) {
+        let pairs = match self.random.below(16) {
+            0 => self.random.between(1, 62),
+            _ => self.random.between(1, 3),
+        };
+        let absent = self.random.once_in(4).then(|| self.random.below(pairs));
+        let mut bytes = Vec::new();
+        for pair in 0..pairs {
+            let port = if absent == Some(pair) {
+                self.absent(table)
+            } else {
+                self.one_present(table)
+            };
+            bytes.extend([port, self.random.between(0, 0x1F) as u8]);
+        }
+        up(Form::OutputFeedback, &[], &bytes)
+    }
+
+    /// A port that is present, if there is one.
+    fn one_present(&mut self, table: &Table) -> u8 {
+        let ports: Vec<u8> = table.ports().collect();
+        if ports.is_empty() {
+            self.random.one_of(&self.ports)
+        } else {
+            self.random.one_of(&ports)
+        }
     }
 
     /// Messages on a port that change nothing.

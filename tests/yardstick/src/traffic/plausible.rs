@@ -5,8 +5,8 @@ use crate::way::Way;
 /// The known types that go a way.
 pub fn known_types(way: Way) -> &'static [u8] {
     match way {
-        Way::Down => &[0x01, 0x02, 0x03, 0x10, 0x11, 0x12, 0x21, 0x22, 0x41, 0x61],
-        Way::Up => &[0x01, 0x02, 0x03, 0x04, 0x05, 0x13, 0x43, 0x44, 0x45, 0x47],
+        Way::Down => &[0x01, 0x02, 0x03, 0x10, 0x11, 0x12, 0x21, 0x22, 0x41, 0x61, 0x81],
+        Way::Up => &[0x01, 0x02, 0x03, 0x04, 0x05, 0x13, 0x43, 0x44, 0x45, 0x47, 0x82],
     }
 }
 
@@ -20,9 +20,10 @@ pub fn plausible(random: &mut Random, message: &mut Vec<u8>) -> Way {
             let other = random.one_of(&Way::BOTH);
             random.one_of(known_types(other))
         }
-        // These two types have the most forms.
+        // These types have the most forms.
         2..=7 => 0x01,
         8..=13 if way == Way::Up => 0x44,
+        8..=11 => 0x81,
         _ => random.one_of(known_types(way)),
     };
     message.clear();
@@ -146,6 +147,8 @@ impl Body<'_> {
                     self.any(2);
                 }
             }
+            0x81 => self.motor_command(),
+            0x82 => self.feedback(),
             _ => self.open(0, 124),
         }
     }
@@ -199,6 +202,83 @@ impl Body<'_> {
                 self.any(2);
             }
         }
+    }
+
+    fn motor_command(&mut self) {
+        self.any(1);
+        self.listed(&[0x00, 0x01, 0x10, 0x11]);
+        match self.listed(&[0x0C, 0x0D, 0x0E, 0x14]) {
+            0x0C => {
+                self.degrees();
+                self.signed_speed();
+                self.signed_speed();
+                self.power_and_end();
+            }
+            0x0D => {
+                self.any(4);
+                self.between(1, 100);
+                self.power_and_end();
+            }
+            0x0E => {
+                self.any(8);
+                self.between(1, 100);
+                self.power_and_end();
+            }
+            _ => self.any(8),
+        }
+    }
+
+    /// 0 to 10,000,000, or now and then a number next to that or any.
+    fn degrees(&mut self) {
+        let degrees = match self.random.below(32) {
+            0 => -1,
+            1 => 10_000_001,
+            2 => self.random.number() as i32,
+            _ => self.random.between(0, 10_000_000) as i32,
+        };
+        self.message.extend(degrees.to_le_bytes());
+    }
+
+    /// -100 to 100, or now and then a number next to that or any.
+    fn signed_speed(&mut self) {
+        let speed = match self.random.below(48) {
+            0 => -101,
+            1 => 101,
+            2 => self.random.byte() as i8,
+            _ => (self.random.between(0, 200) as i16 - 100) as i8,
+        };
+        self.message.extend(speed.to_le_bytes());
+    }
+
+    fn power_and_end(&mut self) {
+        self.between(0, 100);
+        self.listed(&[0, 126, 127]);
+        self.between(0, 3);
+    }
+
+    /// Mostly few pairs, now and then any number of them, or half a pair more.
+    fn feedback(&mut self) {
+        let pairs = match self.random.below(8) {
+            0 => self.random.between(0, 62),
+            _ => self.random.between(1, 4),
+        };
+        for _ in 0..pairs {
+            self.any(1);
+            self.feedback_of(pairs);
+        }
+        if self.random.once_in(32) {
+            self.any(1);
+        }
+    }
+
+    /// Feedback of one of so many pairs. The more there are, the rarer is a wrong one.
+    fn feedback_of(&mut self, pairs: usize) {
+        let feedback = match self.random.below(48 * pairs) {
+            0 => self.random.byte(),
+            1 => 0x20,
+            _ => self.random.between(0, 0x1F) as u8,
+        };
+        self.push(feedback);
     }
 
     fn information_type(&mut self) -> u8 {

@@ -3,7 +3,7 @@ use crate::random::Random;
 /// What a list of messages is mostly about.
 #[derive(Clone, Copy, Debug, PartialEq, Eq)]
 pub enum Scene {
-    /// Few ports, which are joined and pulled apart.
+    /// Few ports, which are joined, driven and pulled apart.
     Pairs,
     /// More ports than places.
     Crowd,
@@ -27,6 +27,8 @@ pub(super) enum Sort {
     Answer,
     Value,
     Setup,
+    Command,
+    Feedback,
     Information,
     Notice,
     Any,
@@ -66,14 +68,14 @@ impl Scene {
     }
 
     /// How often each sort comes.
-    fn shares(self) -> [(Sort, usize); 12] {
+    fn shares(self) -> [(Sort, usize); 14] {
         use Sort::*;
         let shares = match self {
-            Scene::Pairs => [30, 30, 12, 6, 6, 1, 6, 14, 12, 4, 1, 4],
-            Scene::Crowd => [60, 16, 8, 4, 4, 1, 4, 8, 6, 4, 0, 4],
-            Scene::Values => [8, 2, 1, 20, 16, 2, 20, 60, 2, 4, 0, 4],
-            Scene::Experiments => [16, 3, 5, 24, 24, 12, 24, 50, 1, 8, 1, 2],
-            Scene::Mixed => [20, 12, 6, 16, 14, 3, 16, 40, 8, 8, 1, 8],
+            Scene::Pairs => [30, 30, 12, 6, 6, 1, 6, 14, 12, 16, 8, 4, 1, 4],
+            Scene::Crowd => [60, 16, 8, 4, 4, 1, 4, 8, 6, 6, 4, 4, 0, 4],
+            Scene::Values => [8, 2, 1, 20, 16, 2, 20, 60, 2, 4, 2, 4, 0, 4],
+            Scene::Experiments => [16, 3, 5, 24, 24, 12, 24, 50, 1, 4, 2, 8, 1, 2],
+            Scene::Mixed => [20, 12, 6, 16, 14, 3, 16, 40, 8, 10, 6, 8, 1, 8],
         };
         let sorts = [
             Attach,
@@ -85,6 +87,8 @@ impl Scene {
             Answer,
             Value,
             Setup,
+            Command,
+            Feedback,
             Information,
             Notice,
             Any,

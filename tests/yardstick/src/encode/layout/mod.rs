@@ -4,6 +4,7 @@ mod firmware;
 mod hub;
 mod hub_property;
 mod mode_information;
+mod output;
 mod port;
 
 use super::bytes::Bytes;
@@ -22,6 +23,12 @@ pub(super) fn lay_out(message: Message, open: &[u8]) -> Result<Vec<u8>, Refusal>
         0x02..=0x05 => hub::lay_out(&mut bytes, form, values)?,
         0x10 => firmware::go_into_boot_mode(&mut bytes),
         0x44 => mode_information::information(&mut bytes, form, values)?,
+        0x81 => output::command(&mut bytes, form, values)?,
+        // It has nothing but open bytes, which are judged as they are laid out.
+        0x82 => {
+            bytes.pairs(open)?;
+            return bytes.finish();
+        }
         _ => port::lay_out(&mut bytes, form, values)?,
     }
     bytes.run(open);
