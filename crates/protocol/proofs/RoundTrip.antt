@@ -27,7 +27,7 @@ use Rattle.protocol.specs.declared.Message.the-variants as Message'
 use Rattle.protocol.specs.declared.Way.{Way}
 use Rattle.protocol.proofs.Tests.{and-left, and-right}
 use Rattle.protocol.proofs.FormTrip.{was-read, form-written, Shaped, form-read}
-use Rattle.protocol.proofs.Selection.{typed, long-enough}
+use Rattle.protocol.proofs.Selection.{headed as head, typed, long-enough}
 use Rattle.protocol.proofs.Sizes.{short}
 use Rattle.protocol.proofs.SelectionTrip.{Narrow, narrow-read, narrow-written, narrow-widths, Fitting, Leads, leads}
 
