@@ -3,6 +3,7 @@ mod open;
 mod put;
 
 use crate::open::open_fits;
+use crate::open::open_outside;
 use crate::put::put_bytes;
 use crate::put::put_slot;
 use protocol::Message;
@@ -114,6 +115,7 @@ fn smallest_size(m: Message, slots: [Slot; 11]) -> u16
             port: _,
             combinations: _,
         } => 7,
+        Message::OutputFeedback => end + 2,
         _ => end,
     }
 }
@@ -135,6 +137,13 @@ fn judged(m: Message, way: Way, open: &[u8], slots: [Slot; 11]) -> Choice
             let place = first_outside(slots);
             if place != 0 {
                 return Choice::Refused { number: 7, place };
+            }
+            let wrong = open_outside(m, open);
+            if wrong != 0 {
+                return Choice::Refused {
+                    number: 7,
+                    place: wrong,
+                };
             }
             Choice::Chosen
         }
