@@ -22,12 +22,12 @@ cast-result c =
 returns : tie.Need-returns
 returns c =
     let a = c .before .before .before .before .before .args in
-    at-feedback (a .m) (a .«open» .now) (c .before .before .enum-told .given .1) (c .before .wrong-feedback .result) (c .before .wrong-feedback .ensures) (c .if1 .taken)
+    at-feedback (a .m) (a .«open» .now) (c .before .before .enum-told .given .1) (c .before .wrong-feedback .result) (c .before .wrong-feedback .ensures) (omega (arith, c .if1 .taken))
 
 returns-2 : tie.Need-returns-2
 returns-2 c =
     let a = c .before .before .before .before .before .args in
-    no-feedback (a .m) (a .«open» .now) (c .before .before .enum-told .given .1) (c .before .wrong-feedback .result) (c .before .wrong-feedback .ensures) (c .if1 .left)
+    no-feedback (a .m) (a .«open» .now) (c .before .before .enum-told .given .1) (c .before .wrong-feedback .result) (c .before .wrong-feedback .ensures) (omega (arith, c .if1 .left))
 
 returns-3 : tie.Need-returns-3
 returns-3 c = let a = c .before .before .args in sym (never-outside (a .m) (a .«open» .now) (c .match .keys2))
