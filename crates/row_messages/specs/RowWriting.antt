@@ -26,11 +26,11 @@ inPlaceOfWider width = 256 ^ width - 2
 unfoldable pub fitted : ℕ → ℕ → ℕ
 fitted width n = cond (ltb n (256 ^ width)) n (inPlaceOfWider width)
 
--- the same of a signed number: the least of its width
+-- what stands for a number that is no signed one of its field's width: the least of them, which no list has either
 abbrev pub leastSigned : ℕ → ℤ
 leastSigned width = negsuc (2 ^ (8 * width - 1) - 1)
 
--- a number in two's complement of 64 bits as a signed one in so many bytes
+-- a number in two's complement of 64 bits as a signed one of so many bytes
 unfoldable pub fittedSigned : ℕ → ℕ → ℤ
 fittedSigned width n = let z = twosComplement 8 n in cond (inRange width z) z (leastSigned width)
 

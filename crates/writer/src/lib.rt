@@ -120,7 +120,7 @@ fn smallest_size(m: Message, slots: [Slot; 11]) -> u16
     }
 }
 
-// Refusals 5, 23, 7, 6 and 7 of a message with these slots.
+// Refusals 5, 23, 7, 6 and 7 of a message with these slots: of its fields, then of its open bytes.
 fn judged(m: Message, way: Way, open: &[u8], slots: [Slot; 11]) -> Choice
     requires { ⌜ Slotted m slots ⌝ }
     ensures { λ r. ⌜ Judged way m (now («open» .entry)) slots r ⌝ }
