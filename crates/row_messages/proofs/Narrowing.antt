@@ -1,9 +1,9 @@
 -- A value that a field may hold, as a number and back; fields and words one after the other.
 use Prim.Native.Nat.{ℕ, zero, suc, _+_, _*_, _-_, _/_, _%_, _^_, _≤_, _<_}
-use native.Mathlib.Nat.{add-zero, mod-eq-of-lt, mul-add-mod-self-right}
+use native.Mathlib.Nat.{add-zero}
 use native.Mathlib.Omega.{arith}
 use mathlib.Core.Path.{_≡_, refl, sym, _∙_, ap}
-use mathlib.Core.Bool.{Bool, true, false, not}
+use mathlib.Core.Bool.{Bool, true, false, not, cond}
 use mathlib.Core.List.{List, [], _∷_, _++_}
 use mathlib.Core.Logic.{⊎-elim}
 use borrow.Author.Tests.{lt-ltb, ltb-true}
@@ -13,7 +13,6 @@ use lib.Ieee.{Float, binary32, ofBits, toBits}
 use lib.Ieee as Ieee
 use lib.Ieee.Bits.{ofBits-toBits, toBits-lt}
 use lib.ListN.{length, getD, drop, replicate}
-use lib.Pow.{pow-add}
 use lib.Seq.{getD-drop, drop-drop}
 use Rattle.protocol.specs.Number.{Bytes, littleEndian, twosComplement, isFinite}
 use Rattle.protocol.specs.Rule.{any}
@@ -22,12 +21,13 @@ use Rattle.protocol.specs.Form.{word, wordsFrom, upFrom}
 use Rattle.protocol.specs.Encode.{inRange, ofInteger, holds, wrote, writeFields}
 use Rattle.protocol.proofs.Tests.{which, and-left, and-right}
 use Rattle.protocol.proofs.Bytes.{little-lt}
-use Rattle.protocol.proofs.Signed.{range, halves, integer-lt, integer-forth}
+use Rattle.protocol.proofs.Signed.{integer-forth}
 use Rattle.protocol.proofs.Floats.{finite-bits}
 use Rattle.protocol.proofs.FieldTrip.{Taken, taken-good, step-after, never}
 use Rattle.protocol.proofs.FieldsTrip.{one-step}
 use Rattle.message_rows.specs.Row.{numberOf}
-use Rattle.row_messages.specs.RowWriting.{fitted, settledBits, narrow, narrowAll}
+use Rattle.row_messages.proofs.Settled.{half-most}
+use Rattle.row_messages.specs.RowWriting.{fitted, leastSigned, fittedSigned, settledBits, narrow, narrowAll}
 
 -- ---- one value
 
@@ -35,7 +35,7 @@ use Rattle.row_messages.specs.RowWriting.{fitted, settledBits, narrow, n
 abbrev Slim : Field → Type 0
 Slim (number w rule) = Unit {0}
 Slim (highFirst w) = Unit {0}
-Slim (signed w) = (1 ≤ w) × (w ≤ 8)
+Slim (signed w rule) = (1 ≤ w) × (w ≤ 8)
 Slim float = Unit {0}
 Slim (fixed bytes) = Unit {0}
 
@@ -43,21 +43,21 @@ abbrev pub AllSlim : List Field → Type 0
 AllSlim [] = Unit {0}
 AllSlim (f ∷ fs) = Slim f × AllSlim fs
 
-module _ (w : ℕ) (h : 1 ≤ w) (k : w ≤ 8) where
-  -- the range of 64 bits is that of the width, so many times
-  times : 2 ^ 64 ≡ 256 ^ (8 - w) * 256 ^ w
-  times = let e : 8 - w + w ≡ 8 = omega arith in sym (ap (λ (n : ℕ). 256 ^ n) e) ∙ pow-add 256 (8 - w) w
+module _ (w : ℕ) (k : w ≤ 8) where
+  -- a signed number of the width is one of 64 bits
+  wider : (z : ℤ) → inRange w z ≡ true → inRange 8 z ≡ true
+  wider (pos n) e = lt-ltb n (2 ^ 63) (omega (arith, ltb-true n (2 ^ (8 * w - 1)) e, half-most w k))
+  wider (negsuc n) e = lt-ltb n (2 ^ 63) (omega (arith, ltb-true n (2 ^ (8 * w - 1)) e, half-most w k))
 
-  below : (q d n : ℕ) → q * d ≡ 2 ^ 64 → n < d → (2 ^ 64 - suc n) % d ≡ d - suc n
-  below zero d n e l = absurd (omega arith)
-  below (suc q) d n e l =
-      let split : 2 ^ 64 - suc n ≡ q * d + (d - suc n) = omega (arith, e) in
-      ap (λ (x : ℕ). x % d) split ∙ mul-add-mod-self-right q d (d - suc n) ∙ mod-eq-of-lt (omega arith)
+  bits-64 : (z : ℤ) → numberOf (integer z) ≡ ofInteger 8 z
+  bits-64 (pos n) = refl
+  bits-64 (negsuc n) = refl
 
-  low-bytes : (z : ℤ) → inRange w z ≡ true → numberOf (integer z) % 256 ^ w ≡ ofInteger w z
-  low-bytes (pos n) e = mod-eq-of-lt (integer-lt w h (pos n) e)
-  low-bytes (negsuc n) e =
-      below (256 ^ (8 - w)) (256 ^ w) n (sym times) (omega (arith, ltb-true n (2 ^ (8 * w - 1)) e, halves w h)) ∙ ap (λ (x : ℕ). x - suc n) (sym (range w))
+  signed-back : (z : ℤ) → inRange w z ≡ true → fittedSigned w (numberOf (integer z)) ≡ z
+  unfolding fittedSigned
+  signed-back z e =
+      let same : twosComplement 8 (numberOf (integer z)) ≡ z = ap (twosComplement 8) (bits-64 z) ∙ integer-forth 8 (omega arith) z (wider z e) in
+      ap (λ (x : ℤ). cond (inRange w x) x (leastSigned w)) same ∙ rw e
 
 T-yes : (b : Bool) → b ≡ true → T b
 T-yes b e = rw e tt
@@ -84,10 +84,10 @@ narrow-held (number w rule) p (real x) h = never h
 narrow-held (highFirst w) p (natural n) h = refl
 narrow-held (highFirst w) p (integer z) h = never h
 narrow-held (highFirst w) p (real x) h = never h
-narrow-held (signed w) p (natural n) h = never h
-narrow-held (signed w) p (integer z) h =
-    ap (λ (x : ℤ). integer x ∷ []) (ap (twosComplement w) (low-bytes w (p .0) (p .1) z h) ∙ integer-forth w (p .0) z h)
-narrow-held (signed w) p (real x) h = never h
+narrow-held (signed w rule) p (natural n) h = never h
+narrow-held (signed w rule) p (integer z) h =
+    ap (λ (x : ℤ). integer x ∷ []) (signed-back w (p .1) z (and-left (inRange w z) (rule z) h))
+narrow-held (signed w rule) p (real x) h = never h
 narrow-held float p (natural n) h = never h
 narrow-held float p (integer z) h = never h
 narrow-held float p (real x) h =
@@ -131,9 +131,9 @@ module _ (row : List ℕ) where
       let r = one-step (highFirst w) fs place vs bs ws e in
       taken-back (highFirst w) (p .0) i vs (r .first) (r .left) (narrowAll (fs ++ gs) row (i + 1)) (taken-good (highFirst w) vs (r .first) (r .left) (r .first-is)) ns
       (λ left. fields-back fs gs (p .1) (place + w) (i + 1) (r .left) (r .second) ws (r .second-is) left rest)
-  fields-back (signed w ∷ fs) gs p place i vs bs ws e ns rest =
-      let r = one-step (signed w) fs place vs bs ws e in
-      taken-back (signed w) (p .0) i vs (r .first) (r .left) (narrowAll (fs ++ gs) row (i + 1)) (taken-good (signed w) vs (r .first) (r .left) (r .first-is)) ns
+  fields-back (signed w rule ∷ fs) gs p place i vs bs ws e ns rest =
+      let r = one-step (signed w rule) fs place vs bs ws e in
+      taken-back (signed w rule) (p .0) i vs (r .first) (r .left) (narrowAll (fs ++ gs) row (i + 1)) (taken-good (signed w rule) vs (r .first) (r .left) (r .first-is)) ns
       (λ left. fields-back fs gs (p .1) (place + w) (i + 1) (r .left) (r .second) ws (r .second-is) left rest)
   fields-back (float ∷ fs) gs p place i vs bs ws e ns rest =
       let r = one-step float fs place vs bs ws e in

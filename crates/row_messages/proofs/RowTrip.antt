@@ -4,12 +4,13 @@ use native.Mathlib.Omega.{arith}
 use mathlib.Core.Path.{_≡_, refl, _∙_, ap}
 use mathlib.Core.Bool.{Bool, true}
 use mathlib.Core.List.{List, [], _∷_, _++_, map}
+use mathlib.Core.Option.{Option, none, some}
 use borrow.Author.Tests.{eq-eqb}
 use lib.ListN.{length, getD, drop, length-append}
 use Rattle.protocol.specs.Number.{Bytes}
 use Rattle.protocol.specs.Field.{Value, natural, values, widths}
 use Rattle.protocol.specs.Form
-use Rattle.protocol.specs.Form.{Form, formNumber, Rest, nothing, openRun, words, layout, readRest, wordsFrom, upFrom}
+use Rattle.protocol.specs.Form.{Form, formNumber, Rest, nothing, openRun, words, layout, wrongByte, readRun, readRest, wordsFrom, upFrom}
 use Rattle.protocol.specs.Decode.{accepted, header, fieldsEnd, decodeForm, decode, openPart}
 use Rattle.protocol.specs.Answer.{formOf, valuesOf, messageOf}
 use Rattle.protocol.specs.Encode.{encoded, encodeValues, encode, writeFields, wrote}
@@ -67,11 +68,16 @@ slim Form.portValue = omega arith
 slim Form.inputFormat = omega arith
 slim Form.virtualDisconnect = omega arith
 slim Form.virtualConnect = omega arith
+slim Form.startSpeedForDegrees = omega arith
+slim Form.gotoAbsolutePosition = omega arith
+slim Form.gotoAbsolutePositions = omega arith
+slim Form.presetEncoders = omega arith
+slim Form.outputFeedback = omega arith
 
 -- a form and its number
 pub record Numbered (f : Form) : Type 0 where
   pub least : 1 ≤ formNumber f
-  pub most : formNumber f ≤ 33
+  pub most : formNumber f ≤ 38
   -- the argument plays no part in the values of a row and in its message
   pub same-values : (row : List ℕ) → rowValues (formAt (formNumber f)) row ≡ rowValues f row
   pub same-message : (vs : List Value) → messageOf (formAt (formNumber f)) vs ≡ messageOf f vs
@@ -111,6 +117,11 @@ numbered Form.portValue = record { least = omega arith; most = omega arith; same
 numbered Form.inputFormat = record { least = omega arith; most = omega arith; same-values = λ row. refl; same-message = λ vs. refl }
 numbered Form.virtualDisconnect = record { least = omega arith; most = omega arith; same-values = λ row. refl; same-message = λ vs. refl }
 numbered Form.virtualConnect = record { least = omega arith; most = omega arith; same-values = λ row. refl; same-message = λ vs. refl }
+numbered Form.startSpeedForDegrees = record { least = omega arith; most = omega arith; same-values = λ row. refl; same-message = λ vs. refl }
+numbered Form.gotoAbsolutePosition = record { least = omega arith; most = omega arith; same-values = λ row. refl; same-message = λ vs. refl }
+numbered Form.gotoAbsolutePositions = record { least = omega arith; most = omega arith; same-values = λ row. refl; same-message = λ vs. refl }
+numbered Form.presetEncoders = record { least = omega arith; most = omega arith; same-values = λ row. refl; same-message = λ vs. refl }
+numbered Form.outputFeedback = record { least = omega arith; most = omega arith; same-values = λ row. refl; same-message = λ vs. refl }
 
 -- ---- what reading gives
 
@@ -123,7 +134,11 @@ module _ (row s : List ℕ) (b : Bytes s) (short : length s < 256) where
   -- what follows the fields
   rest-back : (r : Rest) (end : ℕ) → end ≤ length s → (ws : List Value) → readRest s end r ≡ values ws → (j : ℕ) → Numbers (drop j row) ws → narrowAll (wordFields r) row j ≡ ws
   rest-back nothing end large ws k j ns = cc
-  rest-back (openRun least most) end large ws k j ns = cc
+  rest-back (openRun least most run) end large ws k j ns = go (wrongByte run (drop end s)) k
+    where
+      go : (wrong : Option ℕ) → readRun end wrong ≡ values ws → [] ≡ ws
+      go none e = cc
+      go (some i) e = let z : _≡_ {A = ℕ} 0 1 = cc in absurd (omega arith)
   rest-back (words most) end large ws k j ns =
       let count : ℕ = (length s - end) / 2 in
       let is : ws ≡ natural count ∷ wordsFrom s end count (upFrom 0 most) = cc in

@@ -10,8 +10,8 @@ use Rattle.protocol.proofs.FieldTrip.{never}
 use Rattle.protocol.specs.Rule.{upTo, oneOf}
 use Rattle.protocol.specs.Properties.{greatest, allowed}
 use Rattle.protocol.specs.Form
-use Rattle.protocol.specs.Form.{Form, layout, alertStatus, informationType}
-use Rattle.protocol.specs.Types.{types, downAction, hubProperties, hubActions, hubAlerts, hubAttachedIo, portInformation, portModeInformation, virtualPortSetup}
+use Rattle.protocol.specs.Form.{Form, layout, alertStatus, informationType, startByte, endState, direction, degrees}
+use Rattle.protocol.specs.Types.{types, downAction, hubProperties, hubActions, hubAlerts, hubAttachedIo, portInformation, portModeInformation, virtualPortSetup, portOutputCommand}
 use Rattle.protocol.specs.declared.Way.{Way}
 use Rattle.protocol.specs.declared.Way.the-variants.{Down, Up}
 use Rattle.row_messages.specs.WideNumbers.{AllApart, NoSelectors, WiderIsOutside}
@@ -28,19 +28,19 @@ unfolding greatest
 payload-apart p = byte-apart (oneOf (2 ∷ 7 ∷ []) p) (eqb p 6) (eqb p 15)
 
 fields-apart : (f : Form) → AllApart (layout f .fields)
-unfolding layout alertStatus informationType
+unfolding layout alertStatus informationType startByte endState direction degrees
 fields-apart Form.propertyCommand = ((λ e n h. refl), ((λ e n h. refl), tt))
 fields-apart (Form.propertyText p) = ((λ e n h. refl), ((λ e n h. refl), tt))
 fields-apart (Form.propertyByte p) = ((λ e n h. refl), ((λ e n h. refl), (payload-apart p, tt)))
-fields-apart Form.propertyRssi = ((λ e n h. refl), ((λ e n h. refl), (tt, tt)))
-fields-apart Form.propertyVersion = ((λ e n h. refl), ((λ e n h. refl), (tt, tt)))
+fields-apart Form.propertyRssi = ((λ e n h. refl), ((λ e n h. refl), ((λ e z h. refl), tt)))
+fields-apart Form.propertyVersion = ((λ e n h. refl), ((λ e n h. refl), ((λ e z h. refl), tt)))
 fields-apart Form.propertyProtocol = ((λ e n h. refl), ((λ e n h. refl), ((λ e n h. refl), tt)))
 fields-apart Form.propertyAddress = ((λ e n h. refl), ((λ e n h. refl), (tt, tt)))
 fields-apart Form.hubAction = ((λ e n h. refl), tt)
 fields-apart Form.alertCommand = ((λ e n h. refl), ((λ e n h. refl), tt))
 fields-apart Form.alertUpdate = ((λ e n h. refl), ((λ e n h. refl), (never, tt)))
 fields-apart Form.detached = ((λ e n h. refl), ((λ e n h. refl), tt))
-fields-apart Form.attached = ((λ e n h. refl), ((λ e n h. refl), ((λ e n h. refl), (tt, (tt, tt)))))
+fields-apart Form.attached = ((λ e n h. refl), ((λ e n h. refl), ((λ e n h. refl), ((λ e z h. refl), ((λ e z h. refl), tt)))))
 fields-apart Form.attachedVirtual = ((λ e n h. refl), ((λ e n h. refl), ((λ e n h. refl), ((λ e n h. refl), ((λ e n h. refl), tt)))))
 fields-apart Form.genericError = ((λ e n h. refl), (never, tt))
 fields-apart Form.goIntoBootMode = (tt, tt)
@@ -62,13 +62,18 @@ fields-apart Form.portValue = ((λ e n h. refl), tt)
 fields-apart Form.inputFormat = ((λ e n h. refl), (never, ((λ e n h. refl), (never, tt))))
 fields-apart Form.virtualDisconnect = ((λ e n h. refl), ((λ e n h. refl), tt))
 fields-apart Form.virtualConnect = ((λ e n h. refl), ((λ e n h. refl), ((λ e n h. refl), tt)))
+fields-apart Form.startSpeedForDegrees = ((λ e n h. refl), (never, ((λ e n h. refl), (never, (never, (never, (never, (never, (never, tt)))))))))
+fields-apart Form.gotoAbsolutePosition = ((λ e n h. refl), (never, ((λ e n h. refl), ((λ e z h. refl), (never, (never, (never, (never, tt))))))))
+fields-apart Form.gotoAbsolutePositions = ((λ e n h. refl), (never, ((λ e n h. refl), ((λ e z h. refl), ((λ e z h. refl), (never, (never, (never, (never, tt)))))))))
+fields-apart Form.presetEncoders = ((λ e n h. refl), (never, ((λ e n h. refl), ((λ e z h. refl), ((λ e z h. refl), tt)))))
+fields-apart Form.outputFeedback = tt
 
 no-selectors : (way : Way) → NoSelectors (types way)
-unfolding types hubProperties hubActions hubAlerts hubAttachedIo portInformation portModeInformation virtualPortSetup allowed downAction
+unfolding types hubProperties hubActions hubAlerts hubAttachedIo portInformation portModeInformation virtualPortSetup portOutputCommand allowed downAction
 no-selectors Down =
-    ((refl, λ property. (refl, λ operation. tt)), ((refl, λ action. tt), ((refl, λ alert. (refl, λ operation. tt)), (tt, (tt, (tt, (tt, (tt, (tt, ((refl, λ sub. tt), tt))))))))))
+    ((refl, λ property. (refl, λ operation. tt)), ((refl, λ action. tt), ((refl, λ alert. (refl, λ operation. tt)), (tt, (tt, (tt, (tt, (tt, (tt, ((refl, λ sub. tt), ((refl, λ sub. tt), tt)))))))))))
 no-selectors Up =
-    ((refl, λ property. (refl, λ operation. tt)), ((refl, λ action. tt), ((refl, λ alert. (refl, λ operation. tt)), ((refl, λ event. tt), (tt, (tt, ((refl, λ information. tt), ((refl, λ information. tt), (tt, (tt, tt))))))))))
+    ((refl, λ property. (refl, λ operation. tt)), ((refl, λ action. tt), ((refl, λ alert. (refl, λ operation. tt)), ((refl, λ event. tt), (tt, (tt, ((refl, λ information. tt), ((refl, λ information. tt), (tt, (tt, (tt, tt)))))))))))
 
 pub wider-is-outside : WiderIsOutside
 wider-is-outside = (fields-apart, no-selectors)

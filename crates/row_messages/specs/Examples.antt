@@ -25,7 +25,7 @@ up f ns opens a = record { way = Up; form = f; numbers = ns; opens = opens; answ
 abbrev pub examples : List Example
 examples =
     -- no form
-    up 34 [] [] (refused 255 0)
+    up 39 [] [] (refused 255 0)
     ∷ up 0 [] [] (refused 255 0)
     -- the way first
     ∷ down 11 (300 ∷ 300 ∷ []) [] (refused 5 2)
@@ -75,6 +75,30 @@ examples =
     ∷ up 28 (0 ∷ 0 ∷ 8 ∷ 281474976710656 ∷ []) [] (refused 7 6)
     ∷ up 25 (0 ∷ 0 ∷ 1 ∷ 0 ∷ 2139095040 ∷ []) [] (refused 7 10)
     ∷ up 25 (0 ∷ 0 ∷ 1 ∷ 0 ∷ 4294967296 ∷ []) [] (refused 255 0)
+    -- a motor command: both speeds with their signs
+    ∷ down 34 (16 ∷ 0x11 ∷ 12 ∷ 90 ∷ 18446744073709551516 ∷ 100 ∷ 100 ∷ 127 ∷ 3 ∷ []) [] (encoded (0x0F ∷ 0x00 ∷ 0x81 ∷ 0x10 ∷ 0x11 ∷ 0x0C ∷ 0x5A ∷ 0x00 ∷ 0x00 ∷ 0x00 ∷ 0x9C ∷ 0x64 ∷ 0x64 ∷ 0x7F ∷ 0x03 ∷ []))
+    ∷ up 34 (16 ∷ 0x11 ∷ 12 ∷ []) [] (refused 5 2)
+    -- its sub command is another's, or of no list
+    ∷ down 34 (16 ∷ 0x11 ∷ 13 ∷ 90 ∷ 0 ∷ 0 ∷ 0 ∷ 0 ∷ 0 ∷ []) [] (refused 7 5)
+    ∷ down 34 (16 ∷ 0x11 ∷ 268 ∷ 90 ∷ 0 ∷ 0 ∷ 0 ∷ 0 ∷ 0 ∷ []) [] (refused 7 5)
+    -- degrees of -1 and of 2 ^ 32, speeds of -101, 300 and -129: outside their lists
+    ∷ down 34 (16 ∷ 0x11 ∷ 12 ∷ 18446744073709551615 ∷ 0 ∷ 0 ∷ 0 ∷ 0 ∷ 0 ∷ []) [] (refused 7 6)
+    ∷ down 34 (16 ∷ 0x11 ∷ 12 ∷ 4294967296 ∷ 0 ∷ 0 ∷ 0 ∷ 0 ∷ 0 ∷ []) [] (refused 7 6)
+    ∷ down 34 (16 ∷ 0x11 ∷ 12 ∷ 90 ∷ 18446744073709551515 ∷ 0 ∷ 0 ∷ 0 ∷ 0 ∷ []) [] (refused 7 10)
+    ∷ down 34 (16 ∷ 0x11 ∷ 12 ∷ 90 ∷ 300 ∷ 0 ∷ 0 ∷ 0 ∷ 0 ∷ []) [] (refused 7 10)
+    ∷ down 34 (16 ∷ 0x11 ∷ 12 ∷ 90 ∷ 0 ∷ 18446744073709551487 ∷ 0 ∷ 0 ∷ 0 ∷ []) [] (refused 7 11)
+    -- a position has no list
+    ∷ down 35 (0 ∷ 1 ∷ 13 ∷ 2147483648 ∷ 1 ∷ 100 ∷ 126 ∷ 0 ∷ []) [] (refused 255 0)
+    ∷ down 35 (0 ∷ 1 ∷ 13 ∷ 2147483648 ∷ 1 ∷ 101 ∷ 126 ∷ 0 ∷ []) [] (refused 7 11)
+    ∷ down 35 (0 ∷ 1 ∷ 13 ∷ 18446744071562067968 ∷ 1 ∷ 100 ∷ 126 ∷ 0 ∷ []) [] (encoded (0x0E ∷ 0x00 ∷ 0x81 ∷ 0x00 ∷ 0x01 ∷ 0x0D ∷ 0x00 ∷ 0x00 ∷ 0x00 ∷ 0x80 ∷ 0x01 ∷ 0x64 ∷ 0x7E ∷ 0x00 ∷ []))
+    ∷ down 36 (16 ∷ 0x10 ∷ 14 ∷ 300 ∷ 18446744073709551316 ∷ 50 ∷ 80 ∷ 0 ∷ 1 ∷ []) [] (encoded (0x12 ∷ 0x00 ∷ 0x81 ∷ 0x10 ∷ 0x10 ∷ 0x0E ∷ 0x2C ∷ 0x01 ∷ 0x00 ∷ 0x00 ∷ 0xD4 ∷ 0xFE ∷ 0xFF ∷ 0xFF ∷ 0x32 ∷ 0x50 ∷ 0x00 ∷ 0x01 ∷ []))
+    ∷ down 37 (16 ∷ 0x10 ∷ 20 ∷ 0 ∷ 18446744073709551615 ∷ []) [] (encoded (0x0E ∷ 0x00 ∷ 0x81 ∷ 0x10 ∷ 0x10 ∷ 0x14 ∷ 0x00 ∷ 0x00 ∷ 0x00 ∷ 0x00 ∷ 0xFF ∷ 0xFF ∷ 0xFF ∷ 0xFF ∷ []))
+    -- feedback comes in pairs, and has five bits
+    ∷ up 38 [] (16 ∷ 10 ∷ []) (encoded (0x05 ∷ 0x00 ∷ 0x82 ∷ 0x10 ∷ 0x0A ∷ []))
+    ∷ up 38 [] (16 ∷ 32 ∷ []) (refused 7 4)
+    ∷ up 38 [] (16 ∷ []) (refused 6 5)
+    ∷ up 38 [] [] (refused 6 5)
+    ∷ down 38 [] (16 ∷ 10 ∷ []) (refused 5 2)
     ∷ []
 
 -- the open bytes are said by the call, and not by the row

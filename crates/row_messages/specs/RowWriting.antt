@@ -1,8 +1,9 @@
 -- Writing the message that a row of numbers gives: a form's number, and a number for each value from left to right.
-use Prim.Native.Nat.{ℕ, zero, suc, _+_, _-_, _/_, _%_, _^_}
+use Prim.Native.Nat.{ℕ, zero, suc, _+_, _*_, _-_, _/_, _%_, _^_}
 use mathlib.Core.Bool.{Bool, true, false, cond, _&&_}
 use mathlib.Core.List.{List, [], _∷_, _++_}
 use lib.Dec.{eqb, ltb}
+use lib.IntN.{ℤ, negsuc}
 use lib.Ieee.{binary32, ofBits}
 use lib.ListN.{length, getD, drop, replicate}
 use Rattle.protocol.specs.Number.{twosComplement}
@@ -10,7 +11,7 @@ use Rattle.protocol.specs.Rule.{any}
 use Rattle.protocol.specs.Field.{Field, number, highFirst, signed, float, fixed, Value, natural, integer, real}
 use Rattle.protocol.specs.Form.{Form, Rest, nothing, openRun, words, layout}
 use Rattle.protocol.specs.Answer.{formOf, naturalAt, messageOf}
-use Rattle.protocol.specs.Encode.{Encoded, refused, encoded, afterFields, encodeValues}
+use Rattle.protocol.specs.Encode.{Encoded, refused, encoded, inRange, afterFields, encodeValues}
 use Rattle.protocol.specs.declared.Combinations.{Combinations}
 use Rattle.protocol.specs.declared.Message.{Message}
 use Rattle.protocol.specs.declared.Way.{Way}
@@ -25,6 +26,14 @@ inPlaceOfWider width = 256 ^ width - 2
 unfoldable pub fitted : ℕ → ℕ → ℕ
 fitted width n = cond (ltb n (256 ^ width)) n (inPlaceOfWider width)
 
+-- what stands for a number that is no signed one of its field's width: the least of them, which no list has either
+abbrev pub leastSigned : ℕ → ℤ
+leastSigned width = negsuc (2 ^ (8 * width - 1) - 1)
+
+-- a number in two's complement of 64 bits as a signed one of so many bytes
+unfoldable pub fittedSigned : ℕ → ℕ → ℤ
+fittedSigned width n = let z = twosComplement 8 n in cond (inRange width z) z (leastSigned width)
+
 -- the bits of an f32: one infinity stands for every infinity and NaN, all of which writing refuses alike, and 0 for a wider number
 unfoldable pub settledBits : ℕ → ℕ
 settledBits n = cond (ltb n (256 ^ 4)) (cond (eqb (n % 2147483648 / 8388608) 255) 0x7f800000 n) 0
@@ -33,7 +42,7 @@ settledBits n = cond (ltb n (256 ^ 4)) (cond (eqb (n % 2147483648 / 8388608) 255
 abbrev pub narrow : Field → ℕ → List Value
 narrow (number w rule) n = natural (fitted w n) ∷ []
 narrow (highFirst w) n = natural n ∷ []
-narrow (signed w) n = integer (twosComplement w (n % 256 ^ w)) ∷ []
+narrow (signed w rule) n = integer (fittedSigned w n) ∷ []
 narrow float n = real (ofBits binary32 (settledBits n)) ∷ []
 narrow (fixed bytes) n = []
 
@@ -41,7 +50,7 @@ narrow (fixed bytes) n = []
 abbrev pub past : Field → ℕ → ℕ
 past (number w rule) i = i + 1
 past (highFirst w) i = i + 1
-past (signed w) i = i + 1
+past (signed w rule) i = i + 1
 past float i = i + 1
 past (fixed bytes) i = i
 
@@ -52,7 +61,7 @@ narrowAll (f ∷ fs) row i = narrow f (getD row i 0) ++ narrowAll fs row (past f
 -- the words of a 43's list: their count and each of them
 abbrev pub wordFields : Rest → List Field
 wordFields nothing = []
-wordFields (openRun least most) = []
+wordFields (openRun least most run) = []
 wordFields (words most) = number 1 any ∷ replicate most (number 2 any)
 
 -- the values of a row, selectors among them, by the layout of its form
@@ -79,7 +88,7 @@ combinationsIn row = record {
 -- how many entries of a 43's list are past its count, which are not among its fields
 abbrev pub pastCount : Rest → List Value → ℕ
 pastCount nothing vs = 0
-pastCount (openRun least most) vs = 0
+pastCount (openRun least most run) vs = 0
 pastCount (words most) vs = most - naturalAt vs 0
 
 abbrev pub among : Form → List Value → ℕ
@@ -110,11 +119,11 @@ formEncoded way n row opens =
     let vs = rowValues (formAt n) row in
     unlessOwn (ownNumbers f vs row) (encodeValues way f vs opens)
 
--- writing what a row gives: it is a whole row, and its form is one of the 33
+-- writing what a row gives: it is a whole row, and its form is one of the 38
 unfoldable pub rowEncoded : Way → List ℕ → List ℕ → Encoded
 rowEncoded way row opens =
     let form = getD row 0 0 in
-    cond (ltb (length row) rowSize) noMessage (cond (ltb form 1) noMessage (cond (ltb 33 form) noMessage (formEncoded way form row opens)))
+    cond (ltb (length row) rowSize) noMessage (cond (ltb form 1) noMessage (cond (ltb 38 form) noMessage (formEncoded way form row opens)))
 
 -- how many values of a message's own row are compared: of form 23 as many entries as it says
 unfoldable pub comparedIn : List ℕ → ℕ

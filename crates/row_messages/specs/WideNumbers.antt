@@ -4,17 +4,19 @@ use Prim.Native.Nat.{ℕ, _^_, _<_}
 use mathlib.Core.Path.{_≡_}
 use mathlib.Core.Bool.{true, false}
 use mathlib.Core.List.{List, [], _∷_}
+use lib.IntN.{ℤ}
 use Rattle.protocol.specs.Field.{Field, number, highFirst, signed, float, fixed}
 use Rattle.protocol.specs.Form.{Form, layout}
+use Rattle.protocol.specs.Encode.{inRange}
 use Rattle.protocol.specs.Types.{Selection, always, select, Row, types}
 use Rattle.protocol.specs.declared.Way.{Way}
-use Rattle.row_messages.specs.RowWriting.{inPlaceOfWider}
+use Rattle.row_messages.specs.RowWriting.{inPlaceOfWider, leastSigned}
 
 -- it is in a field's list only if every number of that width is
 abbrev Apart : Field → Type 0
 Apart (number w rule) = rule (inPlaceOfWider w) ≡ true → (n : ℕ) → n < 256 ^ w → rule n ≡ true
 Apart (highFirst w) = Unit {0}
-Apart (signed w) = Unit {0}
+Apart (signed w rule) = rule (leastSigned w) ≡ true → (z : ℤ) → inRange w z ≡ true → rule z ≡ true
 Apart float = Unit {0}
 Apart (fixed bytes) = Unit {0}
 

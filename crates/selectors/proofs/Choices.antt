@@ -15,7 +15,7 @@ use Rattle.protocol.specs.Properties.{carries, allowed, outsideSelector}
 use Rattle.protocol.specs.Field.{Value}
 use Rattle.protocol.specs.Form
 use Rattle.protocol.specs.Form.{Form, formNumber, argument, sameForm, code}
-use Rattle.protocol.specs.Types.{payload, downAction, upAction, hubProperties, hubActions, hubAlerts, hubAttachedIo, portInformation, portModeInformation, virtualPortSetup, types, readOnly}
+use Rattle.protocol.specs.Types.{payload, downAction, upAction, hubProperties, hubActions, hubAlerts, hubAttachedIo, portInformation, portModeInformation, virtualPortSetup, portOutputCommand, types, readOnly}
 use Rattle.protocol.specs.Answer.{formOf, valuesOf, naturalAt, messageOf}
 use Rattle.protocol.specs.Encode.{Encoded, refused, encodeForm, encodeValues, encode}
 use Rattle.protocol.specs.declared.Message.{Message}
@@ -236,6 +236,51 @@ module _ (b : ℕ) (x r : Encoded) where
   connect-value : subs Form.virtualConnect b ≡ cond (eqb b 1) x r
   connect-value = by-value (subs Form.virtualConnect) b 1 x r refl (λ no. rw no (not-connect (eqb b 0) x r))
 
+-- ---- motor commands
+
+abbrev commandForm : Bool → Bool → Bool → Form
+commandForm e0C e0D e0E = cond e0C Form.startSpeedForDegrees (cond e0D Form.gotoAbsolutePosition (cond e0E Form.gotoAbsolutePositions Form.presetEncoders))
+
+not-degrees : (e0D e0E e14 : Bool) (x r : Encoded) → cond (false || (e0D || (e0E || (e14 || false)))) (cond (sameForm (commandForm false e0D e0E) Form.startSpeedForDegrees) x r) r ≡ r
+not-degrees true e0E e14 x r = refl
+not-degrees false true e14 x r = refl
+not-degrees false false true x r = refl
+not-degrees false false false x r = refl
+
+not-position : (e0C e0E e14 : Bool) (x r : Encoded) → cond (e0C || (false || (e0E || (e14 || false)))) (cond (sameForm (commandForm e0C false e0E) Form.gotoAbsolutePosition) x r) r ≡ r
+not-position true e0E e14 x r = refl
+not-position false true e14 x r = refl
+not-position false false true x r = refl
+not-position false false false x r = refl
+
+not-positions : (e0C e0D e14 : Bool) (x r : Encoded) → cond (e0C || (e0D || (false || (e14 || false)))) (cond (sameForm (commandForm e0C e0D false) Form.gotoAbsolutePositions) x r) r ≡ r
+not-positions true e0D e14 x r = refl
+not-positions false true e14 x r = refl
+not-positions false false true x r = refl
+not-positions false false false x r = refl
+
+not-encoders : (e0C e0D e0E : Bool) (x r : Encoded) → cond (e0C || (e0D || (e0E || (false || false)))) (cond (sameForm (commandForm e0C e0D e0E) Form.presetEncoders) x r) r ≡ r
+not-encoders true e0D e0E x r = refl
+not-encoders false true e0E x r = refl
+not-encoders false false true x r = refl
+not-encoders false false false x r = refl
+
+module _ (b : ℕ) (x r : Encoded) where
+  abbrev commands : Form → ℕ → Encoded
+  commands f = led (0x0C ∷ 0x0D ∷ 0x0E ∷ 0x14 ∷ []) (λ e. commandForm (eqb e 0x0C) (eqb e 0x0D) (eqb e 0x0E)) f x r
+
+  degrees-value : commands Form.startSpeedForDegrees b ≡ cond (eqb b 0x0C) x r
+  degrees-value = by-value (commands Form.startSpeedForDegrees) b 0x0C x r refl (λ no. rw no (not-degrees (eqb b 0x0D) (eqb b 0x0E) (eqb b 0x14) x r))
+
+  position-value : commands Form.gotoAbsolutePosition b ≡ cond (eqb b 0x0D) x r
+  position-value = by-value (commands Form.gotoAbsolutePosition) b 0x0D x r refl (λ no. rw no (not-position (eqb b 0x0C) (eqb b 0x0E) (eqb b 0x14) x r))
+
+  positions-value : commands Form.gotoAbsolutePositions b ≡ cond (eqb b 0x0E) x r
+  positions-value = by-value (commands Form.gotoAbsolutePositions) b 0x0E x r refl (λ no. rw no (not-positions (eqb b 0x0C) (eqb b 0x0D) (eqb b 0x14) x r))
+
+  encoders-value : commands Form.presetEncoders b ≡ cond (eqb b 0x14) x r
+  encoders-value = by-value (commands Form.presetEncoders) b 0x14 x r refl (λ no. rw no (not-encoders (eqb b 0x0C) (eqb b 0x0D) (eqb b 0x0E) x r))
+
 -- ---- what a mode is
 
 abbrev information : List ℕ
@@ -387,7 +432,7 @@ abbrev pub Argued : Form → List Value → Type 0
 Argued f vs = argument f ≡ argument (formOf (messageOf f vs))
 
 pub selects : (f : Form) (vs : List Value) → Argued f vs → (way : Way) → RightFor way f vs (choiceOf f way (naturalAt vs 0) (naturalAt vs 1) (naturalAt vs 2))
-unfolding encodeValues types hubAttachedIo portInformation portModeInformation virtualPortSetup
+unfolding encodeValues types hubAttachedIo portInformation portModeInformation virtualPortSetup portOutputCommand
 selects Form.propertyCommand vs a = property-right Form.propertyCommand vs refl refl
 selects (Form.propertyText p) vs a = property-right (Form.propertyText p) vs refl a
 selects (Form.propertyByte p) vs a = property-right (Form.propertyByte p) vs refl a
@@ -421,6 +466,11 @@ selects Form.portValue vs a = going-up Form.portValue vs true 0 (λ opens. refl)
 selects Form.inputFormat vs a = going-up Form.inputFormat vs true 0 (λ opens. refl) (λ opens. refl)
 selects Form.virtualDisconnect vs a = going-down Form.virtualDisconnect vs (eqb (naturalAt vs 0) 0) 3 (λ opens. disconnect-value (naturalAt vs 0) (encodeForm Form.virtualDisconnect vs opens) (refused 7 3)) (λ opens. refl)
 selects Form.virtualConnect vs a = going-down Form.virtualConnect vs (eqb (naturalAt vs 0) 1) 3 (λ opens. connect-value (naturalAt vs 0) (encodeForm Form.virtualConnect vs opens) (refused 7 3)) (λ opens. refl)
+selects Form.startSpeedForDegrees vs a = going-down Form.startSpeedForDegrees vs (eqb (naturalAt vs 2) 0x0C) 5 (λ opens. degrees-value (naturalAt vs 2) (encodeForm Form.startSpeedForDegrees vs opens) (refused 7 5)) (λ opens. refl)
+selects Form.gotoAbsolutePosition vs a = going-down Form.gotoAbsolutePosition vs (eqb (naturalAt vs 2) 0x0D) 5 (λ opens. position-value (naturalAt vs 2) (encodeForm Form.gotoAbsolutePosition vs opens) (refused 7 5)) (λ opens. refl)
+selects Form.gotoAbsolutePositions vs a = going-down Form.gotoAbsolutePositions vs (eqb (naturalAt vs 2) 0x0E) 5 (λ opens. positions-value (naturalAt vs 2) (encodeForm Form.gotoAbsolutePositions vs opens) (refused 7 5)) (λ opens. refl)
+selects Form.presetEncoders vs a = going-down Form.presetEncoders vs (eqb (naturalAt vs 2) 0x14) 5 (λ opens. encoders-value (naturalAt vs 2) (encodeForm Form.presetEncoders vs opens) (refused 7 5)) (λ opens. refl)
+selects Form.outputFeedback vs a = going-up Form.outputFeedback vs true 0 (λ opens. refl) (λ opens. refl)
 
 -- and of every message
 pub message-right : (m : Message) (way : Way) → Right way m (choiceOf (formOf m) way (naturalAt (valuesOf m) 0) (naturalAt (valuesOf m) 1) (naturalAt (valuesOf m) 2))

@@ -100,6 +100,11 @@ choiceOf Form.portValue way a b c = upOnly way true 0
 choiceOf Form.inputFormat way a b c = upOnly way true 0
 choiceOf Form.virtualDisconnect way a b c = downOnly way (eqb a 0) 3
 choiceOf Form.virtualConnect way a b c = downOnly way (eqb a 1) 3
+choiceOf Form.startSpeedForDegrees way a b c = downOnly way (eqb c 0x0C) 5
+choiceOf Form.gotoAbsolutePosition way a b c = downOnly way (eqb c 0x0D) 5
+choiceOf Form.gotoAbsolutePositions way a b c = downOnly way (eqb c 0x0E) 5
+choiceOf Form.presetEncoders way a b c = downOnly way (eqb c 0x14) 5
+choiceOf Form.outputFeedback way a b c = upOnly way true 0
 
 -- the form of a number, with any argument, since no choice looks at it; a number that is no form's counts as 15
 unfoldable pub formAt : ℕ → Form

@@ -250,6 +250,11 @@ pub fn choose(form: u64, way: Way, a: u8, b: u8, c: u8) -> Choice
         31 => goes_up(way, true, 0),
         32 => goes_down(way, a == 0, 3),
         33 => goes_down(way, a == 1, 3),
+        34 => goes_down(way, c == 0x0C, 5),
+        35 => goes_down(way, c == 0x0D, 5),
+        36 => goes_down(way, c == 0x0E, 5),
+        37 => goes_down(way, c == 0x14, 5),
+        38 => goes_up(way, true, 0),
         _ => goes_down(way, true, 0),
     }
 }
@@ -384,5 +389,41 @@ pub fn selected(m: Message, way: Way) -> Choice
             port_a: _,
             port_b: _,
         } => choose(33, way, 1, 0, 0),
+        Message::StartSpeedForDegrees {
+            port: _,
+            start: _,
+            degrees: _,
+            speed_left: _,
+            speed_right: _,
+            power: _,
+            end_state: _,
+            profile: _,
+        } => choose(34, way, 0, 0, 0x0C),
+        Message::GotoAbsolutePosition {
+            port: _,
+            start: _,
+            position: _,
+            speed: _,
+            power: _,
+            end_state: _,
+            profile: _,
+        } => choose(35, way, 0, 0, 0x0D),
+        Message::GotoAbsolutePositions {
+            port: _,
+            start: _,
+            position_1: _,
+            position_2: _,
+            speed: _,
+            power: _,
+            end_state: _,
+            profile: _,
+        } => choose(36, way, 0, 0, 0x0E),
+        Message::PresetEncoders {
+            port: _,
+            start: _,
+            left: _,
+            right: _,
+        } => choose(37, way, 0, 0, 0x14),
+        Message::OutputFeedback => choose(38, way, 0, 0, 0),
     }
 }

@@ -1,5 +1,5 @@
 -- What a slot's type says of its value, and so which tests are left.
-use Prim.Native.Nat.{ℕ, _<_}
+use Prim.Native.Nat.{ℕ, _^_, _<_}
 use mathlib.Core.Path.{_≡_, refl, _∙_}
 use mathlib.Core.Bool.{Bool, true, false, _&&_}
 use mathlib.Core.List.{List}
@@ -10,20 +10,26 @@ use lib.Ieee.{binary32, toBits}
 use lib.Ieee as Ieee
 use lib.ListN.{length, length-reverse}
 use lib.Signed.{mag}
-use mir.Val.{Val}
+use mir.Syntax.{Width}
+use mir.Val.{Val, hbits, toZ, ofZ}
+use mir.Facts.{toZ-ofZ}
 use denote.Laws.{Is}
 use denote.Enum.Laws.{owed}
 use denote.Enum.Declared.{row}
 use Rattle.protocol.proofs.Bytes.{low-length}
 use Rattle.protocol.specs.Number.{isFinite}
 use Rattle.protocol.specs.Rule as Rule
-use Rattle.protocol.specs.Form.{informationType, alertStatus}
+use Rattle.protocol.specs.Form.{informationType, alertStatus, startByte, endState, direction, degrees}
 use Rattle.protocol.specs.Encode.{lowFirst, inRange, ofInteger}
 use Rattle.slots.proofs.Slot.{the-type}
 use Rattle.slots.proofs.Slot.Laws.{the-laws}
 use Rattle.slots.specs.Slot.{slotFits, slotBytes}
 use Rattle.slots.specs.declared.Slot.{Slot}
 use Rattle.slots.specs.declared.Slot.the-variants as Slot'
+
+-- a signed number that fits its width is the same in its bits
+pub same : (w : Width) (z : ℤ) → mag z < 2 ^ hbits w → toZ w (ofZ w z) ≡ z
+same w z h = toZ-ofZ (record { sfits = h })
 
 -- what the tests come to for values of their types
 abbrev pub slotTest : Slot → Bool
@@ -41,17 +47,21 @@ slotTest (Slot'.HighFirst v) = ltb v 281474976710656
 slotTest (Slot'.Float x) = isFinite x
 slotTest Slot'.BootString = true
 slotTest Slot'.LockString = true
+slotTest (Slot'.StartByte v) = startByte v
+slotTest (Slot'.EndState v) = endState v
+slotTest (Slot'.Direction v) = direction v
+slotTest (Slot'.Degrees v) = degrees v
 
 numbered : (n most : ℕ) (rest : Bool) → n < most → (ltb n most && rest) ≡ rest
 numbered n most rest h = rw (lt-ltb n most h)
 
-signed-byte : (z : ℤ) → mag z < 128 → inRange 1 z ≡ true
-signed-byte (pos n) f = lt-ltb n 128 f
-signed-byte (negsuc n) f = lt-ltb n 128 f
+signed-byte : (z : ℤ) (rest : Bool) → mag z < 128 → (inRange 1 z && rest) ≡ rest
+signed-byte (pos n) rest f = numbered n 128 rest f
+signed-byte (negsuc n) rest f = numbered n 128 rest f
 
-signed-long : (z : ℤ) → mag z < 2147483648 → inRange 4 z ≡ true
-signed-long (pos n) f = lt-ltb n 2147483648 f
-signed-long (negsuc n) f = lt-ltb n 2147483648 f
+signed-long : (z : ℤ) (rest : Bool) → mag z < 2147483648 → (inRange 4 z && rest) ≡ rest
+signed-long (pos n) rest f = numbered n 2147483648 rest f
+signed-long (negsuc n) rest f = numbered n 2147483648 rest f
 
 and-true : (a b : Bool) → b ≡ true → (a && b) ≡ a
 and-true true b e = e
@@ -67,12 +77,16 @@ tested (Slot'.InformationType v) vs g = numbered v 256 (informationType v) (owed
 tested (Slot'.AlertStatus v) vs g = numbered v 256 (alertStatus v) (owed the-type the-laws (Slot'.AlertStatus v) vs g .0 .1)
 tested (Slot'.Word v) vs g = numbered v 65536 true (owed the-type the-laws (Slot'.Word v) vs g .0 .1)
 tested (Slot'.Long v) vs g = numbered v 4294967296 true (owed the-type the-laws (Slot'.Long v) vs g .0 .1)
-tested (Slot'.SignedByte v) vs g = signed-byte v (owed the-type the-laws (Slot'.SignedByte v) vs g .0 .1)
-tested (Slot'.SignedLong v) vs g = signed-long v (owed the-type the-laws (Slot'.SignedLong v) vs g .0 .1)
+tested (Slot'.SignedByte v) vs g = signed-byte v true (owed the-type the-laws (Slot'.SignedByte v) vs g .0 .1)
+tested (Slot'.SignedLong v) vs g = signed-long v true (owed the-type the-laws (Slot'.SignedLong v) vs g .0 .1)
 tested (Slot'.HighFirst v) vs g = refl
 tested (Slot'.Float x) vs g = and-true (isFinite x) (Ieee.fits binary32 x) (owed the-type the-laws (Slot'.Float x) vs g .0 .1)
 tested Slot'.BootString vs g = refl
 tested Slot'.LockString vs g = refl
+tested (Slot'.StartByte v) vs g = numbered v 256 (startByte v) (owed the-type the-laws (Slot'.StartByte v) vs g .0 .1)
+tested (Slot'.EndState v) vs g = numbered v 256 (endState v) (owed the-type the-laws (Slot'.EndState v) vs g .0 .1)
+tested (Slot'.Direction v) vs g = signed-byte v (direction v) (owed the-type the-laws (Slot'.Direction v) vs g .0 .1)
+tested (Slot'.Degrees v) vs g = signed-long v (degrees v) (owed the-type the-laws (Slot'.Degrees v) vs g .0 .1)
 
 -- how many bytes a slot takes
 abbrev pub slotWidth : Slot → ℕ
@@ -90,6 +104,10 @@ slotWidth (Slot'.HighFirst v) = 6
 slotWidth (Slot'.Float x) = 4
 slotWidth Slot'.BootString = 9
 slotWidth Slot'.LockString = 8
+slotWidth (Slot'.StartByte v) = 1
+slotWidth (Slot'.EndState v) = 1
+slotWidth (Slot'.Direction v) = 1
+slotWidth (Slot'.Degrees v) = 4
 
 pub wide : (s : Slot) → length (slotBytes s) ≡ slotWidth s
 unfolding slotBytes
@@ -107,3 +125,7 @@ wide (Slot'.HighFirst v) = length-reverse (lowFirst 6 v) ∙ low-length 6 v
 wide (Slot'.Float x) = low-length 4 (toBits binary32 x)
 wide Slot'.BootString = refl
 wide Slot'.LockString = refl
+wide (Slot'.StartByte v) = low-length 1 v
+wide (Slot'.EndState v) = low-length 1 v
+wide (Slot'.Direction v) = low-length 1 (ofInteger 1 v)
+wide (Slot'.Degrees v) = low-length 4 (ofInteger 4 v)

@@ -5,9 +5,9 @@ use mathlib.Core.Bool.{Bool, true, cond}
 use mathlib.Core.List.{List, [], _∷_, _++_}
 use lib.Dec.{leb, ltb}
 use lib.ListN.{length, take, drop, replicate}
-use Rattle.protocol.specs.Rule.{any, upTo, between}
+use Rattle.protocol.specs.Rule.{any, upTo, between, anySigned}
 use Rattle.protocol.specs.Field.{Field, number, highFirst, signed, float, fixed, Value, natural, integer, real}
-use Rattle.protocol.specs.Form.{informationType, alertStatus, bootString, lockString, Rest, nothing, openRun, words, layout, code}
+use Rattle.protocol.specs.Form.{informationType, alertStatus, startByte, endState, direction, degrees, bootString, lockString, Rest, nothing, openRun, words, layout, code}
 use Rattle.protocol.specs.Answer.{formOf, valuesOf, naturalAt}
 use Rattle.protocol.specs.Encode.{holds, fieldBytes, afterFields, frontValues}
 use Rattle.protocol.specs.declared.Message.{Message}
@@ -23,12 +23,16 @@ fieldOf (Slot'.InformationType v) = number 1 informationType
 fieldOf (Slot'.AlertStatus v) = number 1 alertStatus
 fieldOf (Slot'.Word v) = number 2 any
 fieldOf (Slot'.Long v) = number 4 any
-fieldOf (Slot'.SignedByte v) = signed 1
-fieldOf (Slot'.SignedLong v) = signed 4
+fieldOf (Slot'.SignedByte v) = signed 1 anySigned
+fieldOf (Slot'.SignedLong v) = signed 4 anySigned
 fieldOf (Slot'.HighFirst v) = highFirst 6
 fieldOf (Slot'.Float x) = float
 fieldOf Slot'.BootString = fixed bootString
 fieldOf Slot'.LockString = fixed lockString
+fieldOf (Slot'.StartByte v) = number 1 startByte
+fieldOf (Slot'.EndState v) = number 1 endState
+fieldOf (Slot'.Direction v) = signed 1 direction
+fieldOf (Slot'.Degrees v) = signed 4 degrees
 
 -- the value, if it has one
 abbrev pub valueOf : Slot → List Value
@@ -46,6 +50,10 @@ valueOf (Slot'.HighFirst v) = natural v ∷ []
 valueOf (Slot'.Float x) = real x ∷ []
 valueOf Slot'.BootString = []
 valueOf Slot'.LockString = []
+valueOf (Slot'.StartByte v) = natural v ∷ []
+valueOf (Slot'.EndState v) = natural v ∷ []
+valueOf (Slot'.Direction v) = integer v ∷ []
+valueOf (Slot'.Degrees v) = integer v ∷ []
 
 abbrev heldBy : Field → List Value → Bool
 heldBy f [] = true
@@ -79,6 +87,10 @@ fieldThen (Slot'.HighFirst v) fs = fieldOf (Slot'.HighFirst v) ∷ fs
 fieldThen (Slot'.Float x) fs = fieldOf (Slot'.Float x) ∷ fs
 fieldThen Slot'.BootString fs = fieldOf Slot'.BootString ∷ fs
 fieldThen Slot'.LockString fs = fieldOf Slot'.LockString ∷ fs
+fieldThen (Slot'.StartByte v) fs = fieldOf (Slot'.StartByte v) ∷ fs
+fieldThen (Slot'.EndState v) fs = fieldOf (Slot'.EndState v) ∷ fs
+fieldThen (Slot'.Direction v) fs = fieldOf (Slot'.Direction v) ∷ fs
+fieldThen (Slot'.Degrees v) fs = fieldOf (Slot'.Degrees v) ∷ fs
 
 abbrev pub slotFields : List Slot → List Field
 slotFields [] = []
@@ -99,12 +111,12 @@ atMost most n = cond (leb n most) n most
 -- the words that follow the fields, as fields and values: as many as the first value says, up to the most
 abbrev pub wordFields : Rest → List Value → List Field
 wordFields nothing vs = []
-wordFields (openRun least most) vs = []
+wordFields (openRun least most run) vs = []
 wordFields (words most) vs = replicate (atMost most (naturalAt vs 0)) (number 2 any)
 
 abbrev pub wordValues : Rest → List Value → List Value
 wordValues nothing vs = vs
-wordValues (openRun least most) vs = vs
+wordValues (openRun least most run) vs = vs
 wordValues (words most) vs = take (atMost most (naturalAt vs 0)) (drop 1 vs)
 
 -- slots that are a message from its type byte on: eleven of them, with the fields of its form and their values

@@ -155,6 +155,51 @@ fn row7(code: u8, a: Slot, b: Slot, c: Slot, d: Slot, e: Slot, f: Slot, g: Slot)
     ]
 }
 
+fn row8(
+    code: u8,
+    a: Slot,
+    b: Slot,
+    c: Slot,
+    d: Slot,
+    e: Slot,
+    f: Slot,
+    g: Slot,
+    h: Slot,
+) -> [Slot; 11]
+    ensures { λ r. ⌜ r ≡ Slot'.Byte code ∷ a ∷ b ∷ c ∷ d ∷ e ∷ f ∷ g ∷ h ∷ replicate 2 Slot'.Nothing ⌝ }
+{
+    [
+        Slot::Byte(code),
+        a,
+        b,
+        c,
+        d,
+        e,
+        f,
+        g,
+        h,
+        Slot::Nothing,
+        Slot::Nothing,
+    ]
+}
+
+fn row9(
+    code: u8,
+    a: Slot,
+    b: Slot,
+    c: Slot,
+    d: Slot,
+    e: Slot,
+    f: Slot,
+    g: Slot,
+    h: Slot,
+    i: Slot,
+) -> [Slot; 11]
+    ensures { λ r. ⌜ r ≡ Slot'.Byte code ∷ a ∷ b ∷ c ∷ d ∷ e ∷ f ∷ g ∷ h ∷ i ∷ replicate 1 Slot'.Nothing ⌝ }
+{
+    [Slot::Byte(code), a, b, c, d, e, f, g, h, i, Slot::Nothing]
+}
+
 // The entry at an index of a 43's list; nothing from its count on.
 fn word(index: u8, count: u8, entry: u16) -> Slot
     ensures { λ r. ⌜ r ≡ wordSlot index count entry ⌝ }
@@ -473,5 +518,106 @@ pub fn slots_of(m: Message) -> [Slot; 11]
             Slot::Byte(port_a),
             Slot::Byte(port_b),
         ),
+        Message::StartSpeedForDegrees {
+            port,
+            start,
+            degrees,
+            speed_left,
+            speed_right,
+            power,
+            end_state,
+            profile,
+        } => row9(
+            0x81,
+            Slot::Byte(port),
+            Slot::StartByte(start),
+            Slot::Byte(0x0C),
+            Slot::Degrees(degrees),
+            Slot::Direction(speed_left),
+            Slot::Direction(speed_right),
+            Slot::UpTo {
+                most: 100,
+                value: power,
+            },
+            Slot::EndState(end_state),
+            Slot::UpTo {
+                most: 3,
+                value: profile,
+            },
+        ),
+        Message::GotoAbsolutePosition {
+            port,
+            start,
+            position,
+            speed,
+            power,
+            end_state,
+            profile,
+        } => row8(
+            0x81,
+            Slot::Byte(port),
+            Slot::StartByte(start),
+            Slot::Byte(0x0D),
+            Slot::SignedLong(position),
+            Slot::Between {
+                least: 1,
+                most: 100,
+                value: speed,
+            },
+            Slot::UpTo {
+                most: 100,
+                value: power,
+            },
+            Slot::EndState(end_state),
+            Slot::UpTo {
+                most: 3,
+                value: profile,
+            },
+        ),
+        Message::GotoAbsolutePositions {
+            port,
+            start,
+            position_1,
+            position_2,
+            speed,
+            power,
+            end_state,
+            profile,
+        } => row9(
+            0x81,
+            Slot::Byte(port),
+            Slot::StartByte(start),
+            Slot::Byte(0x0E),
+            Slot::SignedLong(position_1),
+            Slot::SignedLong(position_2),
+            Slot::Between {
+                least: 1,
+                most: 100,
+                value: speed,
+            },
+            Slot::UpTo {
+                most: 100,
+                value: power,
+            },
+            Slot::EndState(end_state),
+            Slot::UpTo {
+                most: 3,
+                value: profile,
+            },
+        ),
+        Message::PresetEncoders {
+            port,
+            start,
+            left,
+            right,
+        } => row5(
+            0x81,
+            Slot::Byte(port),
+            Slot::StartByte(start),
+            Slot::Byte(0x14),
+            Slot::SignedLong(left),
+            Slot::SignedLong(right),
+        ),
+        Message::OutputFeedback => row0(0x82),
     }
 }

@@ -3,7 +3,11 @@ pub mod form;
 
 use hub_messages::rule::between;
 use hub_messages::rule::is_alert_status;
+use hub_messages::rule::is_degrees;
+use hub_messages::rule::is_direction;
+use hub_messages::rule::is_end_state;
 use hub_messages::rule::is_information_type;
+use hub_messages::rule::is_start_byte;
 ghost use mathlib.Core.Path.{_≡_};
 ghost use Prim.Native.Nat.{_≤_};
 ghost use lib.ListN.{length};
@@ -30,6 +34,11 @@ pub enum Slot {
     Float(f32),
     BootString,
     LockString,
+    // motor commands: one byte of a list, and two's complement of a list
+    StartByte(u8),
+    EndState(u8),
+    Direction(i8),
+    Degrees(i32),
 }
 
 // Whether an f32 is neither an infinity nor a NaN: its exponent is not all ones.
@@ -62,6 +71,10 @@ pub fn fits(slot: Slot) -> bool
         Slot::Float(x) => is_finite(x),
         Slot::BootString => true,
         Slot::LockString => true,
+        Slot::StartByte(value) => is_start_byte(value),
+        Slot::EndState(value) => is_end_state(value),
+        Slot::Direction(value) => is_direction(value),
+        Slot::Degrees(value) => is_degrees(value),
     }
 }
 
@@ -88,5 +101,9 @@ pub fn width(slot: Slot) -> usize
         Slot::Float(_) => 4,
         Slot::BootString => 9,
         Slot::LockString => 8,
+        Slot::StartByte(_) => 1,
+        Slot::EndState(_) => 1,
+        Slot::Direction(_) => 1,
+        Slot::Degrees(_) => 4,
     }
 }

@@ -14,16 +14,16 @@ use Rattle.slots.specs.declared.Slot.{Slot}
 use Rattle.writer.proofs.Encoding.{all-inside}
 use Rattle.writer.proofs.Whole.{size-is}
 use Rattle.writer.specs.Judged.{Good, Judged}
-use Rattle.writer.specs.Open.{openFits}
+use Rattle.writer.specs.Open.{openFits, openOutside}
 use Rattle.writer.specs.Slots.{firstOutside, slotsBytes, typePlace}
 use Rattle.writer.specs.Writing.{written, answered}
 use mathlib.Core.Bool.{true}
 
 module _ (way : Way) (m : Message) (opens : List ℕ) (slots : List Slot) where
   -- no refusal came
-  pub all-good : Slotted m slots → encode way m opens ≡ encodeForm (formOf m) (valuesOf m) opens → openFits m (length opens) ≡ true → firstOutside typePlace slots ≡ 0 → Good way m opens slots
-  all-good x own right none =
-      let e = all-inside m opens slots x right none in
+  pub all-good : Slotted m slots → encode way m opens ≡ encodeForm (formOf m) (valuesOf m) opens → openFits m (length opens) ≡ true → firstOutside typePlace slots ≡ 0 → openOutside m opens ≡ 0 → Good way m opens slots
+  all-good x own right none known =
+      let e = all-inside m opens slots x right none known in
       record { inside = none; short = written-short m opens _ e; bytes = own ∙ e }
 
   pub known : (r c : Choice) → Judged way m opens slots r → r ≡ c → Judged way m opens slots c

@@ -37,6 +37,10 @@ slots-width (Slot'.HighFirst v ∷ ss) = one-more (Slot'.HighFirst v) ss (slots-
 slots-width (Slot'.Float x ∷ ss) = one-more (Slot'.Float x) ss (slots-width ss)
 slots-width (Slot'.BootString ∷ ss) = one-more Slot'.BootString ss (slots-width ss)
 slots-width (Slot'.LockString ∷ ss) = one-more Slot'.LockString ss (slots-width ss)
+slots-width (Slot'.StartByte v ∷ ss) = one-more (Slot'.StartByte v) ss (slots-width ss)
+slots-width (Slot'.EndState v ∷ ss) = one-more (Slot'.EndState v) ss (slots-width ss)
+slots-width (Slot'.Direction v ∷ ss) = one-more (Slot'.Direction v) ss (slots-width ss)
+slots-width (Slot'.Degrees v ∷ ss) = one-more (Slot'.Degrees v) ss (slots-width ss)
 
 -- slots without words end where the fields do
 slots-end : (m : Message) (slots : List Slot) → Slotted m slots → wordFields (layout (formOf m) .rest) (afterFields (layout (formOf m) .fields) (valuesOf m)) ≡ []

@@ -3,6 +3,7 @@ mod open;
 mod put;
 
 use crate::open::open_fits;
+use crate::open::open_outside;
 use crate::put::put_bytes;
 use crate::put::put_slot;
 use protocol::Message;
@@ -114,11 +115,12 @@ fn smallest_size(m: Message, slots: [Slot; 11]) -> u16
             port: _,
             combinations: _,
         } => 7,
+        Message::OutputFeedback => end + 2,
         _ => end,
     }
 }
 
-// Refusals 5, 23, 7, 6 and 7 of a message with these slots.
+// Refusals 5, 23, 7, 6 and 7 of a message with these slots: of its fields, then of its open bytes.
 fn judged(m: Message, way: Way, open: &[u8], slots: [Slot; 11]) -> Choice
     requires { ⌜ Slotted m slots ⌝ }
     ensures { λ r. ⌜ Judged way m (now («open» .entry)) slots r ⌝ }
@@ -135,6 +137,13 @@ fn judged(m: Message, way: Way, open: &[u8], slots: [Slot; 11]) -> Choice
             let place = first_outside(slots);
             if place != 0 {
                 return Choice::Refused { number: 7, place };
+            }
+            let wrong = open_outside(m, open);
+            if wrong != 0 {
+                return Choice::Refused {
+                    number: 7,
+                    place: wrong,
+                };
             }
             Choice::Chosen
         }

@@ -1,11 +1,14 @@
-// Whether what follows the fields is right: refusal 6.
+// Whether what follows the fields is right: refusal 6, and 7 of the open bytes.
 use hub_messages::rule::between;
+use hub_messages::rule::wrong_feedback;
 use protocol::Message;
 ghost use mathlib.Core.Path.{_≡_};
+ghost use mathlib.Core.Bool.{true};
+ghost use lib.ListN.{length};
 ghost use Rattle.protocol.specs.Form as Form;
 ghost use Rattle.protocol.specs.Properties as Properties;
 ghost use Rattle.protocol.specs.Rule as Rule;
-ghost use Rattle.writer.specs.Open.{openFits};
+ghost use Rattle.writer.specs.Open.{openFits, openOutside};
 
 // The most bytes of a property's text.
 fn longest(property: u8) -> usize
@@ -21,16 +24,16 @@ fn longest_mode_text(information: u8) -> usize
     if information == 0 { 11 } else { 5 }
 }
 
-fn within(count: usize, most: usize) -> bool
-    ensures { λ r. ⌜ r ≡ Rule.between 1 most count ⌝ }
+fn within(least: usize, count: usize, most: usize) -> bool
+    ensures { λ r. ⌜ r ≡ Rule.between least most count ⌝ }
 {
-    if count < 1 {
+    if count < least {
         return false;
     }
     count <= most
 }
 
-// So many open bytes, for a message; of a 43's list also its count.
+// So many open bytes, for a message: of an 82 whole pairs; of a 43's list also its count.
 pub(crate) fn open_fits(m: Message, count: usize) -> bool
     ensures { λ r. ⌜ r ≡ openFits m count ⌝ }
 {
@@ -38,13 +41,13 @@ pub(crate) fn open_fits(m: Message, count: usize) -> bool
         Message::PropertyText {
             property,
             operation: _,
-        } => within(count, longest(property)),
+        } => within(1, count, longest(property)),
         Message::ModeText {
             port: _,
             mode: _,
             information,
-        } => within(count, longest_mode_text(information)),
-        Message::PortValue { port: _ } => within(count, 123),
+        } => within(1, count, longest_mode_text(information)),
+        Message::PortValue { port: _ } => within(1, count, 123),
         Message::PortCombinations {
             port: _,
             combinations,
@@ -55,6 +58,32 @@ pub(crate) fn open_fits(m: Message, count: usize) -> bool
                 false
             }
         }
+        Message::OutputFeedback => {
+            if count % 2 == 0 {
+                within(2, count, 124)
+            } else {
+                false
+            }
+        }
         _ => count == 0,
+    }
+}
+
+// The place of the first open byte that is not as it must be, which only an 82 can have; 0 where all
+// are.
+pub(crate) fn open_outside(m: Message, open: &[u8]) -> u16
+    requires { ⌜ openFits m (length (now «open»)) ≡ true ⌝ }
+    ensures { λ r. ⌜ r ≡ openOutside m (now («open» .entry)) ⌝ }
+{
+    match m {
+        Message::OutputFeedback => {
+            let index = wrong_feedback(open);
+            if index < open.len() {
+                (3 + index) as u16
+            } else {
+                0
+            }
+        }
+        _ => 0,
     }
 }

@@ -111,6 +111,21 @@ goes-down-requires-2 c κs = search needs
 goes-down-requires-3 : tie.Need-goes-down-requires-3
 goes-down-requires-3 c κs = search needs
 
+goes-down-requires-4 : tie.Need-goes-down-requires-4
+goes-down-requires-4 c κs = search needs
+
+goes-down-requires-5 : tie.Need-goes-down-requires-5
+goes-down-requires-5 c κs = search needs
+
+goes-down-requires-6 : tie.Need-goes-down-requires-6
+goes-down-requires-6 c κs = search needs
+
+goes-up-requires-15 : tie.Need-goes-up-requires-15
+goes-up-requires-15 c κs = search needs
+
+goes-down-requires-7 : tie.Need-goes-down-requires-7
+goes-down-requires-7 c κs = search needs
+
 returns : tie.Need-returns
 unfolding formAt
 returns c =
@@ -289,37 +304,72 @@ returns-30 : tie.Need-returns-30
 unfolding formAt
 returns-30 c =
     let a = c .before .before .args in
-    let ne1 = c .before .match .rest .0 .0 .0 .0 .0 .0 .0 .0 .0 .0 .0 .0 .0 .0 .0 .0 .0 .0 .0 .0 .0 .0 .0 .0 .0 .0 .0 .0 .1 in
-    let ne2 = c .before .match .rest .0 .0 .0 .0 .0 .0 .0 .0 .0 .0 .0 .0 .0 .0 .0 .0 .0 .0 .0 .0 .0 .0 .0 .0 .0 .0 .0 .1 in
-    let ne3 = c .before .match .rest .0 .0 .0 .0 .0 .0 .0 .0 .0 .0 .0 .0 .0 .0 .0 .0 .0 .0 .0 .0 .0 .0 .0 .0 .0 .0 .1 in
-    let ne4 = c .before .match .rest .0 .0 .0 .0 .0 .0 .0 .0 .0 .0 .0 .0 .0 .0 .0 .0 .0 .0 .0 .0 .0 .0 .0 .0 .0 .1 in
-    let ne5 = c .before .match .rest .0 .0 .0 .0 .0 .0 .0 .0 .0 .0 .0 .0 .0 .0 .0 .0 .0 .0 .0 .0 .0 .0 .0 .0 .1 in
-    let ne6 = c .before .match .rest .0 .0 .0 .0 .0 .0 .0 .0 .0 .0 .0 .0 .0 .0 .0 .0 .0 .0 .0 .0 .0 .0 .0 .1 in
-    let ne7 = c .before .match .rest .0 .0 .0 .0 .0 .0 .0 .0 .0 .0 .0 .0 .0 .0 .0 .0 .0 .0 .0 .0 .0 .0 .1 in
-    let ne8 = c .before .match .rest .0 .0 .0 .0 .0 .0 .0 .0 .0 .0 .0 .0 .0 .0 .0 .0 .0 .0 .0 .0 .0 .1 in
-    let ne9 = c .before .match .rest .0 .0 .0 .0 .0 .0 .0 .0 .0 .0 .0 .0 .0 .0 .0 .0 .0 .0 .0 .0 .1 in
-    let ne10 = c .before .match .rest .0 .0 .0 .0 .0 .0 .0 .0 .0 .0 .0 .0 .0 .0 .0 .0 .0 .0 .0 .1 in
-    let ne11 = c .before .match .rest .0 .0 .0 .0 .0 .0 .0 .0 .0 .0 .0 .0 .0 .0 .0 .0 .0 .0 .1 in
-    let ne12 = c .before .match .rest .0 .0 .0 .0 .0 .0 .0 .0 .0 .0 .0 .0 .0 .0 .0 .0 .0 .1 in
-    let ne13 = c .before .match .rest .0 .0 .0 .0 .0 .0 .0 .0 .0 .0 .0 .0 .0 .0 .0 .0 .1 in
-    let ne14 = c .before .match .rest .0 .0 .0 .0 .0 .0 .0 .0 .0 .0 .0 .0 .0 .0 .0 .1 in
-    let ne16 = c .before .match .rest .0 .0 .0 .0 .0 .0 .0 .0 .0 .0 .0 .0 .0 .0 .1 in
-    let ne17 = c .before .match .rest .0 .0 .0 .0 .0 .0 .0 .0 .0 .0 .0 .0 .0 .1 in
-    let ne18 = c .before .match .rest .0 .0 .0 .0 .0 .0 .0 .0 .0 .0 .0 .0 .1 in
-    let ne22 = c .before .match .rest .0 .0 .0 .0 .0 .0 .0 .0 .0 .0 .0 .1 in
-    let ne23 = c .before .match .rest .0 .0 .0 .0 .0 .0 .0 .0 .0 .0 .1 in
-    let ne24 = c .before .match .rest .0 .0 .0 .0 .0 .0 .0 .0 .0 .1 in
-    let ne25 = c .before .match .rest .0 .0 .0 .0 .0 .0 .0 .0 .1 in
-    let ne26 = c .before .match .rest .0 .0 .0 .0 .0 .0 .0 .1 in
-    let ne27 = c .before .match .rest .0 .0 .0 .0 .0 .0 .1 in
-    let ne28 = c .before .match .rest .0 .0 .0 .0 .0 .1 in
-    let ne29 = c .before .match .rest .0 .0 .0 .0 .1 in
-    let ne30 = c .before .match .rest .0 .0 .0 .1 in
-    let ne31 = c .before .match .rest .0 .0 .1 in
-    let ne32 = c .before .match .rest .0 .1 in
-    let ne33 = c .before .match .rest .1 in
-    c .goes-down3 .ensures ∙ each-found (λ f. downOnly (a .way) true 0 ≡ choiceOf f (a .way) (a .a) (a .b) (a .c)) (a .form) Form.goIntoBootMode refl (formsBy 0) 0 (a .form) (sym (zero-add (a .form)))
-    ((λ e. refl), ((λ e. absurd (ne1 e)), ((λ e. absurd (ne2 e)), ((λ e. absurd (ne3 e)), ((λ e. absurd (ne4 e)), ((λ e. absurd (ne5 e)), ((λ e. absurd (ne6 e)), ((λ e. absurd (ne7 e)), ((λ e. absurd (ne8 e)), ((λ e. absurd (ne9 e)), ((λ e. absurd (ne10 e)), ((λ e. absurd (ne11 e)), ((λ e. absurd (ne12 e)), ((λ e. absurd (ne13 e)), ((λ e. absurd (ne14 e)), ((λ e. refl), ((λ e. absurd (ne16 e)), ((λ e. absurd (ne17 e)), ((λ e. absurd (ne18 e)), ((λ e. refl), ((λ e. refl), ((λ e. refl), ((λ e. absurd (ne22 e)), ((λ e. absurd (ne23 e)), ((λ e. absurd (ne24 e)), ((λ e. absurd (ne25 e)), ((λ e. absurd (ne26 e)), ((λ e. absurd (ne27 e)), ((λ e. absurd (ne28 e)), ((λ e. absurd (ne29 e)), ((λ e. absurd (ne30 e)), ((λ e. absurd (ne31 e)), ((λ e. absurd (ne32 e)), ((λ e. absurd (ne33 e)), tt))))))))))))))))))))))))))))))))))
+    numbered (a .form) 34 (a .way) (a .a) (a .b) (a .c) _ (c .before .match .keys30) (c .goes-down3 .ensures)
+
+returns-31 : tie.Need-returns-31
+unfolding formAt
+returns-31 c =
+    let a = c .before .before .args in
+    numbered (a .form) 35 (a .way) (a .a) (a .b) (a .c) _ (c .before .match .keys31) (c .goes-down4 .ensures)
+
+returns-32 : tie.Need-returns-32
+unfolding formAt
+returns-32 c =
+    let a = c .before .before .args in
+    numbered (a .form) 36 (a .way) (a .a) (a .b) (a .c) _ (c .before .match .keys32) (c .goes-down5 .ensures)
+
+returns-33 : tie.Need-returns-33
+unfolding formAt
+returns-33 c =
+    let a = c .before .before .args in
+    numbered (a .form) 37 (a .way) (a .a) (a .b) (a .c) _ (c .before .match .keys33) (c .goes-down6 .ensures)
+
+returns-34 : tie.Need-returns-34
+unfolding formAt
+returns-34 c =
+    let a = c .before .before .args in
+    numbered (a .form) 38 (a .way) (a .a) (a .b) (a .c) _ (c .before .match .keys34) (c .goes-up15 .ensures)
+
+returns-35 : tie.Need-returns-35
+unfolding formAt
+returns-35 c =
+    let a = c .before .before .args in
+    let ne1 = c .before .match .rest .0 .0 .0 .0 .0 .0 .0 .0 .0 .0 .0 .0 .0 .0 .0 .0 .0 .0 .0 .0 .0 .0 .0 .0 .0 .0 .0 .0 .0 .0 .0 .0 .0 .1 in
+    let ne2 = c .before .match .rest .0 .0 .0 .0 .0 .0 .0 .0 .0 .0 .0 .0 .0 .0 .0 .0 .0 .0 .0 .0 .0 .0 .0 .0 .0 .0 .0 .0 .0 .0 .0 .0 .1 in
+    let ne3 = c .before .match .rest .0 .0 .0 .0 .0 .0 .0 .0 .0 .0 .0 .0 .0 .0 .0 .0 .0 .0 .0 .0 .0 .0 .0 .0 .0 .0 .0 .0 .0 .0 .0 .1 in
+    let ne4 = c .before .match .rest .0 .0 .0 .0 .0 .0 .0 .0 .0 .0 .0 .0 .0 .0 .0 .0 .0 .0 .0 .0 .0 .0 .0 .0 .0 .0 .0 .0 .0 .0 .1 in
+    let ne5 = c .before .match .rest .0 .0 .0 .0 .0 .0 .0 .0 .0 .0 .0 .0 .0 .0 .0 .0 .0 .0 .0 .0 .0 .0 .0 .0 .0 .0 .0 .0 .0 .1 in
+    let ne6 = c .before .match .rest .0 .0 .0 .0 .0 .0 .0 .0 .0 .0 .0 .0 .0 .0 .0 .0 .0 .0 .0 .0 .0 .0 .0 .0 .0 .0 .0 .0 .1 in
+    let ne7 = c .before .match .rest .0 .0 .0 .0 .0 .0 .0 .0 .0 .0 .0 .0 .0 .0 .0 .0 .0 .0 .0 .0 .0 .0 .0 .0 .0 .0 .0 .1 in
+    let ne8 = c .before .match .rest .0 .0 .0 .0 .0 .0 .0 .0 .0 .0 .0 .0 .0 .0 .0 .0 .0 .0 .0 .0 .0 .0 .0 .0 .0 .0 .1 in
+    let ne9 = c .before .match .rest .0 .0 .0 .0 .0 .0 .0 .0 .0 .0 .0 .0 .0 .0 .0 .0 .0 .0 .0 .0 .0 .0 .0 .0 .0 .1 in
+    let ne10 = c .before .match .rest .0 .0 .0 .0 .0 .0 .0 .0 .0 .0 .0 .0 .0 .0 .0 .0 .0 .0 .0 .0 .0 .0 .0 .0 .1 in
+    let ne11 = c .before .match .rest .0 .0 .0 .0 .0 .0 .0 .0 .0 .0 .0 .0 .0 .0 .0 .0 .0 .0 .0 .0 .0 .0 .0 .1 in
+    let ne12 = c .before .match .rest .0 .0 .0 .0 .0 .0 .0 .0 .0 .0 .0 .0 .0 .0 .0 .0 .0 .0 .0 .0 .0 .0 .1 in
+    let ne13 = c .before .match .rest .0 .0 .0 .0 .0 .0 .0 .0 .0 .0 .0 .0 .0 .0 .0 .0 .0 .0 .0 .0 .0 .1 in
+    let ne14 = c .before .match .rest .0 .0 .0 .0 .0 .0 .0 .0 .0 .0 .0 .0 .0 .0 .0 .0 .0 .0 .0 .0 .1 in
+    let ne16 = c .before .match .rest .0 .0 .0 .0 .0 .0 .0 .0 .0 .0 .0 .0 .0 .0 .0 .0 .0 .0 .0 .1 in
+    let ne17 = c .before .match .rest .0 .0 .0 .0 .0 .0 .0 .0 .0 .0 .0 .0 .0 .0 .0 .0 .0 .0 .1 in
+    let ne18 = c .before .match .rest .0 .0 .0 .0 .0 .0 .0 .0 .0 .0 .0 .0 .0 .0 .0 .0 .0 .1 in
+    let ne22 = c .before .match .rest .0 .0 .0 .0 .0 .0 .0 .0 .0 .0 .0 .0 .0 .0 .0 .0 .1 in
+    let ne23 = c .before .match .rest .0 .0 .0 .0 .0 .0 .0 .0 .0 .0 .0 .0 .0 .0 .0 .1 in
+    let ne24 = c .before .match .rest .0 .0 .0 .0 .0 .0 .0 .0 .0 .0 .0 .0 .0 .0 .1 in
+    let ne25 = c .before .match .rest .0 .0 .0 .0 .0 .0 .0 .0 .0 .0 .0 .0 .0 .1 in
+    let ne26 = c .before .match .rest .0 .0 .0 .0 .0 .0 .0 .0 .0 .0 .0 .0 .1 in
+    let ne27 = c .before .match .rest .0 .0 .0 .0 .0 .0 .0 .0 .0 .0 .0 .1 in
+    let ne28 = c .before .match .rest .0 .0 .0 .0 .0 .0 .0 .0 .0 .0 .1 in
+    let ne29 = c .before .match .rest .0 .0 .0 .0 .0 .0 .0 .0 .0 .1 in
+    let ne30 = c .before .match .rest .0 .0 .0 .0 .0 .0 .0 .0 .1 in
+    let ne31 = c .before .match .rest .0 .0 .0 .0 .0 .0 .0 .1 in
+    let ne32 = c .before .match .rest .0 .0 .0 .0 .0 .0 .1 in
+    let ne33 = c .before .match .rest .0 .0 .0 .0 .0 .1 in
+    let ne34 = c .before .match .rest .0 .0 .0 .0 .1 in
+    let ne35 = c .before .match .rest .0 .0 .0 .1 in
+    let ne36 = c .before .match .rest .0 .0 .1 in
+    let ne37 = c .before .match .rest .0 .1 in
+    let ne38 = c .before .match .rest .1 in
+    c .goes-down7 .ensures ∙ each-found (λ f. downOnly (a .way) true 0 ≡ choiceOf f (a .way) (a .a) (a .b) (a .c)) (a .form) Form.goIntoBootMode refl (formsBy 0) 0 (a .form) (sym (zero-add (a .form)))
+    ((λ e. refl), ((λ e. absurd (ne1 e)), ((λ e. absurd (ne2 e)), ((λ e. absurd (ne3 e)), ((λ e. absurd (ne4 e)), ((λ e. absurd (ne5 e)), ((λ e. absurd (ne6 e)), ((λ e. absurd (ne7 e)), ((λ e. absurd (ne8 e)), ((λ e. absurd (ne9 e)), ((λ e. absurd (ne10 e)), ((λ e. absurd (ne11 e)), ((λ e. absurd (ne12 e)), ((λ e. absurd (ne13 e)), ((λ e. absurd (ne14 e)), ((λ e. refl), ((λ e. absurd (ne16 e)), ((λ e. absurd (ne17 e)), ((λ e. absurd (ne18 e)), ((λ e. refl), ((λ e. refl), ((λ e. refl), ((λ e. absurd (ne22 e)), ((λ e. absurd (ne23 e)), ((λ e. absurd (ne24 e)), ((λ e. absurd (ne25 e)), ((λ e. absurd (ne26 e)), ((λ e. absurd (ne27 e)), ((λ e. absurd (ne28 e)), ((λ e. absurd (ne29 e)), ((λ e. absurd (ne30 e)), ((λ e. absurd (ne31 e)), ((λ e. absurd (ne32 e)), ((λ e. absurd (ne33 e)), ((λ e. absurd (ne34 e)), ((λ e. absurd (ne35 e)), ((λ e. absurd (ne36 e)), ((λ e. absurd (ne37 e)), ((λ e. absurd (ne38 e)), tt)))))))))))))))))))))))))))))))))))))))
 
 pub choose-spec : {M : Type 1} → statement M
 choose-spec =
@@ -359,6 +409,11 @@ choose-spec =
     goes-down-requires
     goes-down-requires-2
     goes-down-requires-3
+    goes-down-requires-4
+    goes-down-requires-5
+    goes-down-requires-6
+    goes-up-requires-15
+    goes-down-requires-7
     returns
     returns-2
     returns-3
@@ -388,4 +443,9 @@ choose-spec =
     returns-27
     returns-28
     returns-29
-    returns-30)
+    returns-30
+    returns-31
+    returns-32
+    returns-33
+    returns-34
+    returns-35)

@@ -202,6 +202,36 @@ enum-told-21 c = search needs
 choose-requires-33 : tie.Need-choose-requires-33
 choose-requires-33 c κs = search needs
 
+enum-told-22 : tie.Need-enum-told-22
+enum-told-22 c = search needs
+
+choose-requires-34 : tie.Need-choose-requires-34
+choose-requires-34 c κs = search needs
+
+enum-told-23 : tie.Need-enum-told-23
+enum-told-23 c = search needs
+
+choose-requires-35 : tie.Need-choose-requires-35
+choose-requires-35 c κs = search needs
+
+enum-told-24 : tie.Need-enum-told-24
+enum-told-24 c = search needs
+
+choose-requires-36 : tie.Need-choose-requires-36
+choose-requires-36 c κs = search needs
+
+enum-told-25 : tie.Need-enum-told-25
+enum-told-25 c = search needs
+
+choose-requires-37 : tie.Need-choose-requires-37
+choose-requires-37 c κs = search needs
+
+enum-told-26 : tie.Need-enum-told-26
+enum-told-26 c = search needs
+
+choose-requires-38 : tie.Need-choose-requires-38
+choose-requires-38 c κs = search needs
+
 returns : tie.Need-returns
 unfolding formAt
 returns c =
@@ -367,6 +397,31 @@ unfolding formAt
 returns-33 c =
     right-by (c .before .before .before .args .way) _ _ _ _ (c .before .enum-told21 .given .1) (c .choose33 .ensures) (message-right _ (c .before .before .before .args .way))
 
+returns-34 : tie.Need-returns-34
+unfolding formAt
+returns-34 c =
+    right-by (c .before .before .before .args .way) _ _ _ _ (c .before .enum-told22 .given .1) (c .choose34 .ensures) (message-right _ (c .before .before .before .args .way))
+
+returns-35 : tie.Need-returns-35
+unfolding formAt
+returns-35 c =
+    right-by (c .before .before .before .args .way) _ _ _ _ (c .before .enum-told23 .given .1) (c .choose35 .ensures) (message-right _ (c .before .before .before .args .way))
+
+returns-36 : tie.Need-returns-36
+unfolding formAt
+returns-36 c =
+    right-by (c .before .before .before .args .way) _ _ _ _ (c .before .enum-told24 .given .1) (c .choose36 .ensures) (message-right _ (c .before .before .before .args .way))
+
+returns-37 : tie.Need-returns-37
+unfolding formAt
+returns-37 c =
+    right-by (c .before .before .before .args .way) _ _ _ _ (c .before .enum-told25 .given .1) (c .choose37 .ensures) (message-right _ (c .before .before .before .args .way))
+
+returns-38 : tie.Need-returns-38
+unfolding formAt
+returns-38 c =
+    right-by (c .before .before .before .args .way) _ _ _ _ (c .before .enum-told26 .given .1) (c .choose38 .ensures) (message-right _ (c .before .before .before .args .way))
+
 pub selected-spec : {M : Type 1} → statement M
 selected-spec =
     tie.close
@@ -437,6 +492,16 @@ selected-spec =
     choose-requires-32
     enum-told-21
     choose-requires-33
+    enum-told-22
+    choose-requires-34
+    enum-told-23
+    choose-requires-35
+    enum-told-24
+    choose-requires-36
+    enum-told-25
+    choose-requires-37
+    enum-told-26
+    choose-requires-38
     returns
     returns-2
     returns-3
@@ -469,4 +534,9 @@ selected-spec =
     returns-30
     returns-31
     returns-32
-    returns-33)
+    returns-33
+    returns-34
+    returns-35
+    returns-36
+    returns-37
+    returns-38)

@@ -1,5 +1,7 @@
 use mathlib.Core.Path.{sym, _∙_, ap}
-use Rattle.slots.proofs.Ranges.{tested, slotTest}
+use mir.Syntax.{w8, w32}
+use Rattle.protocol.specs.Form.{direction, degrees}
+use Rattle.slots.proofs.Ranges.{same, tested, slotTest}
 use borrow.Author.Needs.{needs}
 use Rattle.slots.proofs.fits.Statement.{statement}
 use Rattle.slots.proofs.fits.Tie as tie
@@ -58,6 +60,30 @@ enum-told-7 c = search needs
 enum-told-8 : tie.Need-enum-told-8
 enum-told-8 c = search needs
 
+enum-known-slot-7 : tie.Need-enum-known-slot-7
+enum-known-slot-7 c = search needs
+
+is-start-byte-requires : tie.Need-is-start-byte-requires
+is-start-byte-requires c κs = search needs
+
+enum-known-slot-8 : tie.Need-enum-known-slot-8
+enum-known-slot-8 c = search needs
+
+is-end-state-requires : tie.Need-is-end-state-requires
+is-end-state-requires c κs = search needs
+
+enum-known-slot-9 : tie.Need-enum-known-slot-9
+enum-known-slot-9 c = search needs
+
+is-direction-requires : tie.Need-is-direction-requires
+is-direction-requires c κs = search needs
+
+enum-known-slot-10 : tie.Need-enum-known-slot-10
+enum-known-slot-10 c = search needs
+
+is-degrees-requires : tie.Need-is-degrees-requires
+is-degrees-requires c κs = search needs
+
 returns : tie.Need-returns
 returns c = sym (tested (c .before .before .args .slot) _ (c .before .before .good .0) ∙ ap slotTest (c .enum-told .given .1))
 
@@ -100,6 +126,22 @@ returns-13 c = sym (tested (c .before .before .args .slot) _ (c .before .before 
 returns-14 : tie.Need-returns-14
 returns-14 c = sym (tested (c .before .before .args .slot) _ (c .before .before .good .0) ∙ ap slotTest (c .enum-told8 .given .1))
 
+returns-15 : tie.Need-returns-15
+returns-15 c = c .is-start-byte .ensures ∙ sym (tested (c .before .before .before .before .args .slot) _ (c .before .before .before .before .good .0) ∙ ap slotTest (c .before .before .slot7 .given .1))
+
+returns-16 : tie.Need-returns-16
+returns-16 c = c .is-end-state .ensures ∙ sym (tested (c .before .before .before .before .args .slot) _ (c .before .before .before .before .good .0) ∙ ap slotTest (c .before .before .slot8 .given .1))
+
+returns-17 : tie.Need-returns-17
+returns-17 c =
+    c .is-direction .ensures ∙ ap direction (same w8 (c .before .before .slot9 .given .0 .0) (c .before .known-told9 .given .0 .1))
+    ∙ sym (tested (c .before .before .before .before .args .slot) _ (c .before .before .before .before .good .0) ∙ ap slotTest (c .before .before .slot9 .given .1))
+
+returns-18 : tie.Need-returns-18
+returns-18 c =
+    c .is-degrees .ensures ∙ ap degrees (same w32 (c .before .before .slot10 .given .0 .0) (c .before .known-told10 .given .0 .1))
+    ∙ sym (tested (c .before .before .before .before .args .slot) _ (c .before .before .before .before .good .0) ∙ ap slotTest (c .before .before .slot10 .given .1))
+
 pub fits-spec : {M : Type 1} → statement M
 fits-spec =
     tie.close
@@ -122,6 +164,14 @@ fits-spec =
     is-finite-requires
     enum-told-7
     enum-told-8
+    enum-known-slot-7
+    is-start-byte-requires
+    enum-known-slot-8
+    is-end-state-requires
+    enum-known-slot-9
+    is-direction-requires
+    enum-known-slot-10
+    is-degrees-requires
     returns
     returns-2
     returns-3
@@ -135,4 +185,8 @@ fits-spec =
     returns-11
     returns-12
     returns-13
-    returns-14)
+    returns-14
+    returns-15
+    returns-16
+    returns-17
+    returns-18)

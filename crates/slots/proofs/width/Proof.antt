@@ -47,6 +47,18 @@ enum-told-13 c = search needs
 enum-told-14 : tie.Need-enum-told-14
 enum-told-14 c = search needs
 
+enum-told-15 : tie.Need-enum-told-15
+enum-told-15 c = search needs
+
+enum-told-16 : tie.Need-enum-told-16
+enum-told-16 c = search needs
+
+enum-told-17 : tie.Need-enum-told-17
+enum-told-17 c = search needs
+
+enum-told-18 : tie.Need-enum-told-18
+enum-told-18 c = search needs
+
 returns : tie.Need-returns
 returns c = (sym (wide (c .before .before .args .slot) ∙ ap slotWidth (c .enum-told .given .1)), omega arith)
 
@@ -89,6 +101,18 @@ returns-13 c = (sym (wide (c .before .before .args .slot) ∙ ap slotWidth (c .e
 returns-14 : tie.Need-returns-14
 returns-14 c = (sym (wide (c .before .before .args .slot) ∙ ap slotWidth (c .enum-told14 .given .1)), omega arith)
 
+returns-15 : tie.Need-returns-15
+returns-15 c = (sym (wide (c .before .before .args .slot) ∙ ap slotWidth (c .enum-told15 .given .1)), omega arith)
+
+returns-16 : tie.Need-returns-16
+returns-16 c = (sym (wide (c .before .before .args .slot) ∙ ap slotWidth (c .enum-told16 .given .1)), omega arith)
+
+returns-17 : tie.Need-returns-17
+returns-17 c = (sym (wide (c .before .before .args .slot) ∙ ap slotWidth (c .enum-told17 .given .1)), omega arith)
+
+returns-18 : tie.Need-returns-18
+returns-18 c = (sym (wide (c .before .before .args .slot) ∙ ap slotWidth (c .enum-told18 .given .1)), omega arith)
+
 pub width-spec : {M : Type 1} → statement M
 width-spec =
     tie.close
@@ -107,6 +131,10 @@ width-spec =
     enum-told-12
     enum-told-13
     enum-told-14
+    enum-told-15
+    enum-told-16
+    enum-told-17
+    enum-told-18
     returns
     returns-2
     returns-3
@@ -120,4 +148,8 @@ width-spec =
     returns-11
     returns-12
     returns-13
-    returns-14)
+    returns-14
+    returns-15
+    returns-16
+    returns-17
+    returns-18)

@@ -42,6 +42,12 @@ add-result-3 c = search needs
 enum-told-4 : tie.Need-enum-told-4
 enum-told-4 c = search needs
 
+enum-told-5 : tie.Need-enum-told-5
+enum-told-5 c = search needs
+
+add-result-4 : tie.Need-add-result-4
+add-result-4 c = search needs
+
 returns : tie.Need-returns
 unfolding layout
 returns c =
@@ -71,12 +77,20 @@ unfolding layout
 returns-4 c = sym (ap (λ (m : Message). smallestSize (formOf m)) (c .enum-told4 .given .1))
 
 returns-5 : tie.Need-returns-5
+unfolding layout
 returns-5 c =
+    let start = c .before .before .before in
+    let widths = c .before .before .widths in
+    smallest-is (start .args .m) (start .args .slots) (start .pre) (widths .result) (widths .ensures .0) _
+    (ap (λ (m : Message). layout (formOf m) .rest) (c .enum-told5 .given .1)) (λ vs. refl)
+
+returns-6 : tie.Need-returns-6
+returns-6 c =
     let start = c .before .before in
     let widths = c .before .widths in
     sym (add-zero (typePlace + widths .result))
     ∙ smallest-is (start .args .m) (start .args .slots) (start .pre) (widths .result) (widths .ensures .0) nothing
-    (nothing-follows (start .args .m) (c .match .keys5)) (λ vs. refl)
+    (nothing-follows (start .args .m) (c .match .keys6)) (λ vs. refl)
 
 pub smallest-size-spec : {M : Type 1} → statement M
 smallest-size-spec =
@@ -92,8 +106,11 @@ smallest-size-spec =
     enum-told-3
     add-result-3
     enum-told-4
+    enum-told-5
+    add-result-4
     returns
     returns-2
     returns-3
     returns-4
-    returns-5)
+    returns-5
+    returns-6)

@@ -1,19 +1,11 @@
-use Prim.Native.Nat.{_^_, _<_}
-use lib.IntN.{ℤ}
-use lib.Signed.{mag}
-use mir.Syntax.{Width, w8, w32}
-use mir.Val.{hbits, toZ, ofZ}
-use mir.Facts.{toZ-ofZ}
-use mathlib.Core.Path.{_≡_, refl}
+use mir.Syntax.{w8, w32}
+use mathlib.Core.Path.{refl}
 use Rattle.protocol.specs.Form.{layout}
+use Rattle.slots.proofs.Ranges.{same}
 use Rattle.slots.proofs.Rows.{mode-slots, slotted}
 use borrow.Author.Needs.{needs}
 use Rattle.slots.proofs.form.slots_of.Statement.{statement}
 use Rattle.slots.proofs.form.slots_of.Tie as tie
-
--- a signed number that fits its width is the same in its bits
-same : (w : Width) (z : ℤ) → mag z < 2 ^ hbits w → toZ w (ofZ w z) ≡ z
-same w z h = toZ-ofZ (record { sfits = h })
 
 enum-known-m : tie.Need-enum-known-m
 enum-known-m c = search needs
@@ -216,6 +208,36 @@ enum-known-m-30 c = search needs
 row3-requires-9 : tie.Need-row3-requires-9
 row3-requires-9 c κs = search needs
 
+enum-known-m-31 : tie.Need-enum-known-m-31
+enum-known-m-31 c = search needs
+
+row9-requires : tie.Need-row9-requires
+row9-requires c κs = search needs
+
+enum-known-m-32 : tie.Need-enum-known-m-32
+enum-known-m-32 c = search needs
+
+row8-requires : tie.Need-row8-requires
+row8-requires c κs = search needs
+
+enum-known-m-33 : tie.Need-enum-known-m-33
+enum-known-m-33 c = search needs
+
+row9-requires-2 : tie.Need-row9-requires-2
+row9-requires-2 c κs = search needs
+
+enum-known-m-34 : tie.Need-enum-known-m-34
+enum-known-m-34 c = search needs
+
+row5-requires-4 : tie.Need-row5-requires-4
+row5-requires-4 c κs = search needs
+
+enum-told-4 : tie.Need-enum-told-4
+enum-told-4 c = search needs
+
+row0-requires-2 : tie.Need-row0-requires-2
+row0-requires-2 c κs = search needs
+
 returns : tie.Need-returns
 unfolding layout
 returns c = slotted (c .before .before .m .given .1) (c .row2 .ensures) (record { eleven = refl; fields = refl; values = refl })
@@ -351,6 +373,34 @@ returns-33 : tie.Need-returns-33
 unfolding layout
 returns-33 c = slotted (c .before .before .m30 .given .1) (c .row39 .ensures) (record { eleven = refl; fields = refl; values = refl })
 
+returns-34 : tie.Need-returns-34
+unfolding layout
+returns-34 c =
+    slotted (c .before .before .m31 .given .1) (c .row9 .ensures)
+    (record { eleven = refl; fields = refl; values = rw (same w32 (c .before .before .m31 .given .0 .1 .1 .0) (c .before .known-told31 .given .1 .1 .0 .1), same w8 (c .before .before .m31 .given .0 .1 .1 .1 .0) (c .before .known-told31 .given .1 .1 .1 .0 .1), same w8 (c .before .before .m31 .given .0 .1 .1 .1 .1 .0) (c .before .known-told31 .given .1 .1 .1 .1 .0 .1)) })
+
+returns-35 : tie.Need-returns-35
+unfolding layout
+returns-35 c =
+    slotted (c .before .before .m32 .given .1) (c .row8 .ensures)
+    (record { eleven = refl; fields = refl; values = rw (same w32 (c .before .before .m32 .given .0 .1 .1 .0) (c .before .known-told32 .given .1 .1 .0 .1)) })
+
+returns-36 : tie.Need-returns-36
+unfolding layout
+returns-36 c =
+    slotted (c .before .before .m33 .given .1) (c .row92 .ensures)
+    (record { eleven = refl; fields = refl; values = rw (same w32 (c .before .before .m33 .given .0 .1 .1 .0) (c .before .known-told33 .given .1 .1 .0 .1), same w32 (c .before .before .m33 .given .0 .1 .1 .1 .0) (c .before .known-told33 .given .1 .1 .1 .0 .1)) })
+
+returns-37 : tie.Need-returns-37
+unfolding layout
+returns-37 c =
+    slotted (c .before .before .m34 .given .1) (c .row54 .ensures)
+    (record { eleven = refl; fields = refl; values = rw (same w32 (c .before .before .m34 .given .0 .1 .1 .0) (c .before .known-told34 .given .1 .1 .0 .1), same w32 (c .before .before .m34 .given .0 .1 .1 .1 .0) (c .before .known-told34 .given .1 .1 .1 .0 .1)) })
+
+returns-38 : tie.Need-returns-38
+unfolding layout
+returns-38 c = slotted (c .before .enum-told4 .given .1) (c .row02 .ensures) (record { eleven = refl; fields = refl; values = refl })
+
 pub slots-of-spec : {M : Type 1} → statement M
 slots-of-spec =
     tie.close
@@ -422,6 +472,16 @@ slots-of-spec =
     row2-requires-7
     enum-known-m-30
     row3-requires-9
+    enum-known-m-31
+    row9-requires
+    enum-known-m-32
+    row8-requires
+    enum-known-m-33
+    row9-requires-2
+    enum-known-m-34
+    row5-requires-4
+    enum-told-4
+    row0-requires-2
     returns
     returns-2
     returns-3
@@ -454,4 +514,9 @@ slots-of-spec =
     returns-30
     returns-31
     returns-32
-    returns-33)
+    returns-33
+    returns-34
+    returns-35
+    returns-36
+    returns-37
+    returns-38)

@@ -1,3 +1,4 @@
+use borrow.Author.Tests.{eq-eqb, ne-eqb}
 use mathlib.Core.Path.{sym, _∙_, ap}
 use Rattle.protocol.specs.Form.{Rest, layout}
 use Rattle.protocol.specs.Answer.{formOf, valuesOf}
@@ -38,6 +39,12 @@ enum-known-m-3 c = search needs
 between-requires : tie.Need-between-requires
 between-requires c κs = search needs
 
+enum-told-2 : tie.Need-enum-told-2
+enum-told-2 c = search needs
+
+within-requires-4 : tie.Need-within-requires-4
+within-requires-4 c κs = search needs
+
 returns : tie.Need-returns
 unfolding openFits layout
 returns c = c .within .ensures ∙ rw (c .before .longest .ensures, c .before .before .before .m .given .1)
@@ -59,8 +66,16 @@ unfolding openFits layout
 returns-5 c = rw (c .before .before .before .m3 .given .1, sym (c .before .between .ensures) ∙ c .if1 .left)
 
 returns-6 : tie.Need-returns-6
+unfolding openFits layout
+returns-6 c = c .within4 .ensures ∙ rw (c .before .before .enum-told2 .given .1, eq-eqb _ _ (c .before .if2 .taken))
+
+returns-7 : tie.Need-returns-7
+unfolding openFits layout
+returns-7 c = rw (c .before .enum-told2 .given .1, ne-eqb _ _ (c .if2 .left))
+
+returns-8 : tie.Need-returns-8
 unfolding openFits
-returns-6 c = let m = c .before .args .m in let count = c .before .args .count in sym (ap (λ (r : Rest). restFits r (afterFields (layout (formOf m) .fields) (valuesOf m)) count) (nothing-follows m (c .match .keys5)))
+returns-8 c = let m = c .before .args .m in let count = c .before .args .count in sym (ap (λ (r : Rest). restFits r (afterFields (layout (formOf m) .fields) (valuesOf m)) count) (nothing-follows m (c .match .keys6)))
 
 pub open-fits-spec : {M : Type 1} → statement M
 open-fits-spec =
@@ -76,9 +91,13 @@ open-fits-spec =
     within-requires-3
     enum-known-m-3
     between-requires
+    enum-told-2
+    within-requires-4
     returns
     returns-2
     returns-3
     returns-4
     returns-5
-    returns-6)
+    returns-6
+    returns-7
+    returns-8)

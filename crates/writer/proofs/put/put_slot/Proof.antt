@@ -134,6 +134,42 @@ slice-aggregate-put-bytes-2 c = search needs
 put-bytes-requires-2 : tie.Need-put-bytes-requires-2
 put-bytes-requires-2 c κs = room-at _ _ _ _ (c .before .before .enum-told3 .given .1) (c .before .before .before .before .before .pre .0)
 
+enum-known-slot-12 : tie.Need-enum-known-slot-12
+enum-known-slot-12 c = search needs
+
+cast-put-low-9 : tie.Need-cast-put-low-9
+cast-put-low-9 c = search needs
+
+put-low-requires-11 : tie.Need-put-low-requires-11
+put-low-requires-11 c κs = room-at _ _ _ _ (c .before .before .slot12 .given .1) (c .before .before .before .before .before .pre .0)
+
+enum-known-slot-13 : tie.Need-enum-known-slot-13
+enum-known-slot-13 c = search needs
+
+cast-put-low-10 : tie.Need-cast-put-low-10
+cast-put-low-10 c = search needs
+
+put-low-requires-12 : tie.Need-put-low-requires-12
+put-low-requires-12 c κs = room-at _ _ _ _ (c .before .before .slot13 .given .1) (c .before .before .before .before .before .pre .0)
+
+enum-known-slot-14 : tie.Need-enum-known-slot-14
+enum-known-slot-14 c = search needs
+
+i8-bits-requires-2 : tie.Need-i8-bits-requires-2
+i8-bits-requires-2 c κs = search needs
+
+put-low-requires-13 : tie.Need-put-low-requires-13
+put-low-requires-13 c κs = room-at _ _ _ _ (c .before .before .before .slot14 .given .1) (c .before .before .before .before .before .before .pre .0)
+
+enum-known-slot-15 : tie.Need-enum-known-slot-15
+enum-known-slot-15 c = search needs
+
+i32-bits-requires-2 : tie.Need-i32-bits-requires-2
+i32-bits-requires-2 c κs = search needs
+
+put-low-requires-14 : tie.Need-put-low-requires-14
+put-low-requires-14 c κs = room-at _ _ _ _ (c .before .before .before .slot15 .given .1) (c .before .before .before .before .before .before .pre .0)
+
 returns : tie.Need-returns
 unfolding slotBytes
 returns c =
@@ -263,6 +299,48 @@ returns-14 c =
     let a = c .before .before .before .before .before .before .before .before .args in
     overwrite-at _ _ (a .out .now) (a .at) _ (c .before .before .before .before .before .enum-told3 .given .1) (c .before .before .put-bytes2 .ensures)
 
+same-length-14 : tie.Need-same-length-14
+same-length-14 c = search needs
+
+returns-15 : tie.Need-returns-15
+unfolding slotBytes
+returns-15 c =
+    let a = c .before .before .before .before .before .before .before .before .args in
+    overwrite-at _ _ (a .out .now) (a .at) _ (c .before .before .before .before .before .slot12 .given .1) (c .before .before .put-low11 .ensures)
+
+same-length-15 : tie.Need-same-length-15
+same-length-15 c = search needs
+
+returns-16 : tie.Need-returns-16
+unfolding slotBytes
+returns-16 c =
+    let a = c .before .before .before .before .before .before .before .before .args in
+    overwrite-at _ _ (a .out .now) (a .at) _ (c .before .before .before .before .before .slot13 .given .1) (c .before .before .put-low12 .ensures)
+
+same-length-16 : tie.Need-same-length-16
+same-length-16 c = search needs
+
+returns-17 : tie.Need-returns-17
+unfolding slotBytes
+returns-17 c =
+    let a = c .before .before .before .before .before .before .before .before .before .args in
+    let told = c .before .before .before .before .before in
+    let signed = toZ-ofZ {w = w8} {z = told .before .slot14 .given .0 .0} (record { sfits = told .known-told14 .given .0 .1 }) in
+    let bits = c .before .before .before .i8-bits2 .ensures ∙ ap (ofInteger 1) signed in
+    overwrite-at _ _ (a .out .now) (a .at) _ (told .before .slot14 .given .1) (low-at (a .out .now) (a .at) 1 bits (c .before .before .put-low13 .ensures))
+
+same-length-17 : tie.Need-same-length-17
+same-length-17 c = search needs
+
+returns-18 : tie.Need-returns-18
+unfolding slotBytes
+returns-18 c =
+    let a = c .before .before .before .before .before .before .before .before .before .args in
+    let told = c .before .before .before .before .before in
+    let signed = toZ-ofZ {w = w32} {z = told .before .slot15 .given .0 .0} (record { sfits = told .known-told15 .given .0 .1 }) in
+    let bits = c .before .before .before .i32-bits2 .ensures ∙ ap (ofInteger 4) signed in
+    overwrite-at _ _ (a .out .now) (a .at) _ (told .before .slot15 .given .1) (low-at (a .out .now) (a .at) 4 bits (c .before .before .put-low14 .ensures))
+
 pub put-slot-spec : {M : Type 1} → statement M
 put-slot-spec =
     tie.close
@@ -307,6 +385,18 @@ put-slot-spec =
     enum-told-3
     slice-aggregate-put-bytes-2
     put-bytes-requires-2
+    enum-known-slot-12
+    cast-put-low-9
+    put-low-requires-11
+    enum-known-slot-13
+    cast-put-low-10
+    put-low-requires-12
+    enum-known-slot-14
+    i8-bits-requires-2
+    put-low-requires-13
+    enum-known-slot-15
+    i32-bits-requires-2
+    put-low-requires-14
     returns
     same-length
     returns-2
@@ -333,4 +423,12 @@ put-slot-spec =
     same-length-12
     returns-13
     same-length-13
-    returns-14)
+    returns-14
+    same-length-14
+    returns-15
+    same-length-15
+    returns-16
+    same-length-16
+    returns-17
+    same-length-17
+    returns-18)
