@@ -10,7 +10,7 @@ use Rattle.protocol.specs.declared.Way.{Way}
 
 bytes-short : (s : List ℕ) (at : ℕ) (r : Rest) → length (openBytes s at r) ≤ length s
 bytes-short s at nothing = omega arith
-bytes-short s at (openRun least most) = simp length-drop (omega arith)
+bytes-short s at (openRun least most run) = simp length-drop (omega arith)
 bytes-short s at (words most) = omega arith
 
 of-short : (s : List ℕ) (a : Answer) → length (openOf s a) ≤ length s
