@@ -49,9 +49,9 @@ pub fn is_start_byte(start: u8) -> bool
     start % 16 <= 1
 }
 
-// 0C: a speed with its direction, -100 to 100.
-pub fn is_direction(speed: i8) -> bool
-    ensures { λ r. ⌜ r ≡ Form.direction speed ⌝ }
+// 0C: a speed whose sign is its direction, -100 to 100.
+pub fn is_signed_speed(speed: i8) -> bool
+    ensures { λ r. ⌜ r ≡ Form.signedSpeed speed ⌝ }
 {
     if speed < -100 {
         return false;

@@ -14,7 +14,7 @@ use Rattle.protocol.specs.Number.{littleEndian, twosComplement}
 use Rattle.protocol.specs.Rule.{between}
 use Rattle.protocol.specs.Field.{natural, integer}
 use Rattle.protocol.specs.Form
-use Rattle.protocol.specs.Form.{layout, startByte, direction, degrees, endState}
+use Rattle.protocol.specs.Form.{layout, startByte, signedSpeed, degrees, endState}
 use Rattle.protocol.specs.Decode.{accepted, decodeForm}
 
 -- a test of a signed number that was read
@@ -22,7 +22,7 @@ pub tested : {w : Width} (rule : ℤ → Bool) (r z : ℤ) (b : Bool) → SFits 
 tested rule r z b f e k = ap rule (sym e ∙ sym (toZ-ofZ f)) ∙ sym k
 
 module _ (s : List ℕ) (start : startByte (getD s 4 0) ≡ true) where
-  pub speed-accepted : getD s 5 0 ≡ 0x0C → length s ≡ 15 → degrees (twosComplement 4 (littleEndian s 6 4)) ≡ true → direction (twosComplement 1 (getD s 10 0)) ≡ true → direction (twosComplement 1 (getD s 11 0)) ≡ true
+  pub speed-accepted : getD s 5 0 ≡ 0x0C → length s ≡ 15 → degrees (twosComplement 4 (littleEndian s 6 4)) ≡ true → signedSpeed (twosComplement 1 (getD s 10 0)) ≡ true → signedSpeed (twosComplement 1 (getD s 11 0)) ≡ true
       → (leb (getD s 12 0) 100 ≡ true) × (endState (getD s 13 0) ≡ true) × (leb (getD s 14 0) 3 ≡ true)
       → decodeForm Form.startSpeedForDegrees s
       ≡ accepted Form.startSpeedForDegrees

@@ -3,8 +3,8 @@ use hub_messages::refusal::outside;
 use hub_messages::refusal::wrong_size;
 use hub_messages::rule::between;
 use hub_messages::rule::is_degrees;
-use hub_messages::rule::is_direction;
 use hub_messages::rule::is_end_state;
+use hub_messages::rule::is_signed_speed;
 use hub_messages::rule::is_start_byte;
 use hub_messages::rule::wrong_feedback;
 use numbers::i8_of;
@@ -72,11 +72,11 @@ fn start_speed_for_degrees(s: &[u8]) -> Reading
         return outside(6);
     }
     let speed_left = i8_of(s[10]);
-    if !is_direction(speed_left) {
+    if !is_signed_speed(speed_left) {
         return outside(10);
     }
     let speed_right = i8_of(s[11]);
-    if !is_direction(speed_right) {
+    if !is_signed_speed(speed_right) {
         return outside(11);
     }
     let place = ending_outside(s, 12);

@@ -282,8 +282,8 @@ unfoldable pub startByte : Rule
 startByte n = upTo 1 (n / 16) && upTo 1 (n % 16)
 
 -- 0C: the sign of a speed is its direction
-unfoldable pub direction : SignedRule
-direction z = fromMinus 100 100 z
+unfoldable pub signedSpeed : SignedRule
+signedSpeed z = fromMinus 100 100 z
 
 -- 0C: signed in the bytes, and never negative
 unfoldable pub degrees : SignedRule
@@ -363,7 +363,7 @@ layout portValue = endingIn (port ∷ []) (openRun 1 123 anyBytes)
 layout inputFormat = only inputSetup
 layout virtualDisconnect = only (selector ∷ port ∷ [])
 layout virtualConnect = only (selector ∷ port ∷ port ∷ [])
-layout startSpeedForDegrees = only (port ∷ byte startByte ∷ selector ∷ signed 4 degrees ∷ signed 1 direction ∷ signed 1 direction ∷ ending)
+layout startSpeedForDegrees = only (port ∷ byte startByte ∷ selector ∷ signed 4 degrees ∷ signed 1 signedSpeed ∷ signed 1 signedSpeed ∷ ending)
 layout gotoAbsolutePosition = only (port ∷ byte startByte ∷ selector ∷ position ∷ speed ∷ ending)
 layout gotoAbsolutePositions = only (port ∷ byte startByte ∷ selector ∷ position ∷ position ∷ speed ∷ ending)
 layout presetEncoders = only (port ∷ byte startByte ∷ selector ∷ position ∷ position ∷ [])

@@ -10,7 +10,7 @@ use Rattle.protocol.proofs.FieldTrip.{never}
 use Rattle.protocol.specs.Rule.{upTo, oneOf}
 use Rattle.protocol.specs.Properties.{greatest, allowed}
 use Rattle.protocol.specs.Form
-use Rattle.protocol.specs.Form.{Form, layout, alertStatus, informationType, startByte, endState, direction, degrees}
+use Rattle.protocol.specs.Form.{Form, layout, alertStatus, informationType, startByte, endState, signedSpeed, degrees}
 use Rattle.protocol.specs.Types.{types, downAction, hubProperties, hubActions, hubAlerts, hubAttachedIo, portInformation, portModeInformation, virtualPortSetup, portOutputCommand}
 use Rattle.protocol.specs.declared.Way.{Way}
 use Rattle.protocol.specs.declared.Way.the-variants.{Down, Up}
@@ -28,7 +28,7 @@ unfolding greatest
 payload-apart p = byte-apart (oneOf (2 ∷ 7 ∷ []) p) (eqb p 6) (eqb p 15)
 
 fields-apart : (f : Form) → AllApart (layout f .fields)
-unfolding layout alertStatus informationType startByte endState direction degrees
+unfolding layout alertStatus informationType startByte endState signedSpeed degrees
 fields-apart Form.propertyCommand = ((λ e n h. refl), ((λ e n h. refl), tt))
 fields-apart (Form.propertyText p) = ((λ e n h. refl), ((λ e n h. refl), tt))
 fields-apart (Form.propertyByte p) = ((λ e n h. refl), ((λ e n h. refl), (payload-apart p, tt)))

@@ -7,7 +7,6 @@ use mathlib.Core.Option.{Option, none, some}
 use native.Mathlib.Omega.{arith}
 use lib.Dec.{eqb, ltb}
 use lib.Ieee.{binary32, ofBits}
-
 use Rattle.protocol.specs.Number.{littleEndian, isFinite}
 use Rattle.protocol.specs.Decode as Decode
 use Rattle.protocol.specs.Decode.{decode, openOf}

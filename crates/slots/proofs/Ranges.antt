@@ -19,7 +19,7 @@ use denote.Enum.Declared.{row}
 use Rattle.protocol.proofs.Bytes.{low-length}
 use Rattle.protocol.specs.Number.{isFinite}
 use Rattle.protocol.specs.Rule as Rule
-use Rattle.protocol.specs.Form.{informationType, alertStatus, startByte, endState, direction, degrees}
+use Rattle.protocol.specs.Form.{informationType, alertStatus, startByte, endState, signedSpeed, degrees}
 use Rattle.protocol.specs.Encode.{lowFirst, inRange, ofInteger}
 use Rattle.slots.proofs.Slot.{the-type}
 use Rattle.slots.proofs.Slot.Laws.{the-laws}
@@ -49,7 +49,7 @@ slotTest Slot'.BootString = true
 slotTest Slot'.LockString = true
 slotTest (Slot'.StartByte v) = startByte v
 slotTest (Slot'.EndState v) = endState v
-slotTest (Slot'.Direction v) = direction v
+slotTest (Slot'.SignedSpeed v) = signedSpeed v
 slotTest (Slot'.Degrees v) = degrees v
 
 numbered : (n most : ℕ) (rest : Bool) → n < most → (ltb n most && rest) ≡ rest
@@ -85,7 +85,7 @@ tested Slot'.BootString vs g = refl
 tested Slot'.LockString vs g = refl
 tested (Slot'.StartByte v) vs g = numbered v 256 (startByte v) (owed the-type the-laws (Slot'.StartByte v) vs g .0 .1)
 tested (Slot'.EndState v) vs g = numbered v 256 (endState v) (owed the-type the-laws (Slot'.EndState v) vs g .0 .1)
-tested (Slot'.Direction v) vs g = signed-byte v (direction v) (owed the-type the-laws (Slot'.Direction v) vs g .0 .1)
+tested (Slot'.SignedSpeed v) vs g = signed-byte v (signedSpeed v) (owed the-type the-laws (Slot'.SignedSpeed v) vs g .0 .1)
 tested (Slot'.Degrees v) vs g = signed-long v (degrees v) (owed the-type the-laws (Slot'.Degrees v) vs g .0 .1)
 
 -- how many bytes a slot takes
@@ -106,7 +106,7 @@ slotWidth Slot'.BootString = 9
 slotWidth Slot'.LockString = 8
 slotWidth (Slot'.StartByte v) = 1
 slotWidth (Slot'.EndState v) = 1
-slotWidth (Slot'.Direction v) = 1
+slotWidth (Slot'.SignedSpeed v) = 1
 slotWidth (Slot'.Degrees v) = 4
 
 pub wide : (s : Slot) → length (slotBytes s) ≡ slotWidth s
@@ -127,5 +127,5 @@ wide Slot'.BootString = refl
 wide Slot'.LockString = refl
 wide (Slot'.StartByte v) = low-length 1 v
 wide (Slot'.EndState v) = low-length 1 v
-wide (Slot'.Direction v) = low-length 1 (ofInteger 1 v)
+wide (Slot'.SignedSpeed v) = low-length 1 (ofInteger 1 v)
 wide (Slot'.Degrees v) = low-length 4 (ofInteger 4 v)

@@ -7,7 +7,7 @@ use lib.Dec.{leb, ltb}
 use lib.ListN.{length, take, drop, replicate}
 use Rattle.protocol.specs.Rule.{any, upTo, between, anySigned}
 use Rattle.protocol.specs.Field.{Field, number, highFirst, signed, float, fixed, Value, natural, integer, real}
-use Rattle.protocol.specs.Form.{informationType, alertStatus, startByte, endState, direction, degrees, bootString, lockString, Rest, nothing, openRun, words, layout, code}
+use Rattle.protocol.specs.Form.{informationType, alertStatus, startByte, endState, signedSpeed, degrees, bootString, lockString, Rest, nothing, openRun, words, layout, code}
 use Rattle.protocol.specs.Answer.{formOf, valuesOf, naturalAt}
 use Rattle.protocol.specs.Encode.{holds, fieldBytes, afterFields, frontValues}
 use Rattle.protocol.specs.declared.Message.{Message}
@@ -31,7 +31,7 @@ fieldOf Slot'.BootString = fixed bootString
 fieldOf Slot'.LockString = fixed lockString
 fieldOf (Slot'.StartByte v) = number 1 startByte
 fieldOf (Slot'.EndState v) = number 1 endState
-fieldOf (Slot'.Direction v) = signed 1 direction
+fieldOf (Slot'.SignedSpeed v) = signed 1 signedSpeed
 fieldOf (Slot'.Degrees v) = signed 4 degrees
 
 -- the value, if it has one
@@ -52,7 +52,7 @@ valueOf Slot'.BootString = []
 valueOf Slot'.LockString = []
 valueOf (Slot'.StartByte v) = natural v ∷ []
 valueOf (Slot'.EndState v) = natural v ∷ []
-valueOf (Slot'.Direction v) = integer v ∷ []
+valueOf (Slot'.SignedSpeed v) = integer v ∷ []
 valueOf (Slot'.Degrees v) = integer v ∷ []
 
 abbrev heldBy : Field → List Value → Bool
@@ -89,7 +89,7 @@ fieldThen Slot'.BootString fs = fieldOf Slot'.BootString ∷ fs
 fieldThen Slot'.LockString fs = fieldOf Slot'.LockString ∷ fs
 fieldThen (Slot'.StartByte v) fs = fieldOf (Slot'.StartByte v) ∷ fs
 fieldThen (Slot'.EndState v) fs = fieldOf (Slot'.EndState v) ∷ fs
-fieldThen (Slot'.Direction v) fs = fieldOf (Slot'.Direction v) ∷ fs
+fieldThen (Slot'.SignedSpeed v) fs = fieldOf (Slot'.SignedSpeed v) ∷ fs
 fieldThen (Slot'.Degrees v) fs = fieldOf (Slot'.Degrees v) ∷ fs
 
 abbrev pub slotFields : List Slot → List Field

@@ -533,8 +533,8 @@ pub fn slots_of(m: Message) -> [Slot; 11]
             Slot::StartByte(start),
             Slot::Byte(0x0C),
             Slot::Degrees(degrees),
-            Slot::Direction(speed_left),
-            Slot::Direction(speed_right),
+            Slot::SignedSpeed(speed_left),
+            Slot::SignedSpeed(speed_right),
             Slot::UpTo {
                 most: 100,
                 value: power,

@@ -4,9 +4,9 @@ pub mod form;
 use hub_messages::rule::between;
 use hub_messages::rule::is_alert_status;
 use hub_messages::rule::is_degrees;
-use hub_messages::rule::is_direction;
 use hub_messages::rule::is_end_state;
 use hub_messages::rule::is_information_type;
+use hub_messages::rule::is_signed_speed;
 use hub_messages::rule::is_start_byte;
 ghost use mathlib.Core.Path.{_≡_};
 ghost use Prim.Native.Nat.{_≤_};
@@ -37,7 +37,7 @@ pub enum Slot {
     // motor commands: one byte of a list, and two's complement of a list
     StartByte(u8),
     EndState(u8),
-    Direction(i8),
+    SignedSpeed(i8),
     Degrees(i32),
 }
 
@@ -73,7 +73,7 @@ pub fn fits(slot: Slot) -> bool
         Slot::LockString => true,
         Slot::StartByte(value) => is_start_byte(value),
         Slot::EndState(value) => is_end_state(value),
-        Slot::Direction(value) => is_direction(value),
+        Slot::SignedSpeed(value) => is_signed_speed(value),
         Slot::Degrees(value) => is_degrees(value),
     }
 }
@@ -103,7 +103,7 @@ pub fn width(slot: Slot) -> usize
         Slot::LockString => 8,
         Slot::StartByte(_) => 1,
         Slot::EndState(_) => 1,
-        Slot::Direction(_) => 1,
+        Slot::SignedSpeed(_) => 1,
         Slot::Degrees(_) => 4,
     }
 }

@@ -14,7 +14,7 @@ use Rattle.protocol.proofs.Tests.{which, and-left, and-right}
 use Rattle.protocol.specs.Rule.{any, upTo, between, anySigned}
 use Rattle.protocol.specs.Field.{Field, number, highFirst, signed, float, fixed, Value, natural, integer, real, width, widths}
 use Rattle.protocol.specs.Form
-use Rattle.protocol.specs.Form.{Form, informationType, alertStatus, startByte, endState, direction, degrees, bootString, lockString, Rest, nothing, openRun, words, layout, code, wrongByte}
+use Rattle.protocol.specs.Form.{Form, informationType, alertStatus, startByte, endState, signedSpeed, degrees, bootString, lockString, Rest, nothing, openRun, words, layout, code, wrongByte}
 use Rattle.protocol.specs.Decode.{header, smallestSize}
 use Rattle.protocol.specs.Answer.{formOf, valuesOf}
 use Rattle.protocol.specs.Encode.{Encoded, encoded, refused, good, bad, taken, holds, fieldBytes, lowFirst, Written, outside, wrote, before, writeFields, restFits, writeRun, thenRest, framed, closed, afterField, afterFields, frontValue, frontValues, encodeForm}
@@ -93,7 +93,7 @@ as-fields at (Slot'.BootString ∷ ss) = ap (before bootString) (as-fields (at +
 as-fields at (Slot'.LockString ∷ ss) = ap (before lockString) (as-fields (at + length lockString) ss)
 as-fields at (Slot'.StartByte v ∷ ss) = slot-first (Slot'.StartByte v) (natural v) (number 1 startByte) at ss (sym (wide (Slot'.StartByte v))) (as-fields (at + length (slotBytes (Slot'.StartByte v))) ss)
 as-fields at (Slot'.EndState v ∷ ss) = slot-first (Slot'.EndState v) (natural v) (number 1 endState) at ss (sym (wide (Slot'.EndState v))) (as-fields (at + length (slotBytes (Slot'.EndState v))) ss)
-as-fields at (Slot'.Direction v ∷ ss) = slot-first (Slot'.Direction v) (integer v) (signed 1 direction) at ss (sym (wide (Slot'.Direction v))) (as-fields (at + length (slotBytes (Slot'.Direction v))) ss)
+as-fields at (Slot'.SignedSpeed v ∷ ss) = slot-first (Slot'.SignedSpeed v) (integer v) (signed 1 signedSpeed) at ss (sym (wide (Slot'.SignedSpeed v))) (as-fields (at + length (slotBytes (Slot'.SignedSpeed v))) ss)
 as-fields at (Slot'.Degrees v ∷ ss) = slot-first (Slot'.Degrees v) (integer v) (signed 4 degrees) at ss (sym (wide (Slot'.Degrees v))) (as-fields (at + length (slotBytes (Slot'.Degrees v))) ss)
 
 -- ---- a message

@@ -39,7 +39,7 @@ slots-width (Slot'.BootString ∷ ss) = one-more Slot'.BootString ss (slots-widt
 slots-width (Slot'.LockString ∷ ss) = one-more Slot'.LockString ss (slots-width ss)
 slots-width (Slot'.StartByte v ∷ ss) = one-more (Slot'.StartByte v) ss (slots-width ss)
 slots-width (Slot'.EndState v ∷ ss) = one-more (Slot'.EndState v) ss (slots-width ss)
-slots-width (Slot'.Direction v ∷ ss) = one-more (Slot'.Direction v) ss (slots-width ss)
+slots-width (Slot'.SignedSpeed v ∷ ss) = one-more (Slot'.SignedSpeed v) ss (slots-width ss)
 slots-width (Slot'.Degrees v ∷ ss) = one-more (Slot'.Degrees v) ss (slots-width ss)
 
 -- slots without words end where the fields do

@@ -105,7 +105,7 @@ pub(crate) fn put_slot(out: &mut [u8], at: usize, slot: Slot)
         Slot::LockString => put_bytes(out, at, &LOCK_STRING),
         Slot::StartByte(value) => put_low(out, at, 1, value as u64),
         Slot::EndState(value) => put_low(out, at, 1, value as u64),
-        Slot::Direction(value) => put_low(out, at, 1, i8_bits(value)),
+        Slot::SignedSpeed(value) => put_low(out, at, 1, i8_bits(value)),
         Slot::Degrees(value) => put_low(out, at, 4, i32_bits(value)),
     }
 }

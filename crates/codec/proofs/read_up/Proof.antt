@@ -101,7 +101,7 @@ returns-10 c =
 
 returns-11 : tie.Need-returns-11
 unfolding types
-returns-11 c = 
+returns-11 c =
     let c1 = c .before .before .before .before in
     c .output-feedback .ensures ∙ sym (typed Up _ 130 (c .before .match .keys11) ∙ long-enough _ _ (c1 .pre))
 

@@ -3,7 +3,7 @@ use mathlib.Core.Path.{sym, _∙_, ap}
 use borrow.Author.Tests.{eq-eqb, ne-eqb, not-true, not-false}
 use lib.ListN.{getD}
 use Rattle.protocol.specs.Number.{littleEndian, twosComplement}
-use Rattle.protocol.specs.Form.{layout, degrees, direction}
+use Rattle.protocol.specs.Form.{layout, degrees, signedSpeed}
 use Rattle.protocol.specs.Decode.{decodeForm}
 use mir.Facts.{toZ-ofZ}
 use mir.Syntax.{w8, w32}
@@ -66,8 +66,8 @@ shared-slice-read-i8-of c = search needs
 i8-of-requires : tie.Need-i8-of-requires
 i8-of-requires c κs = search needs
 
-is-direction-requires : tie.Need-is-direction-requires
-is-direction-requires c κs = search needs
+is-signed-speed-requires : tie.Need-is-signed-speed-requires
+is-signed-speed-requires c κs = search needs
 
 outside-requires-3 : tie.Need-outside-requires-3
 outside-requires-3 c κs = search needs
@@ -85,7 +85,7 @@ returns-4 c =
     let c8 = c7 .before in
     let c9 = c8 .before .before in
     let c10 = c9 .before .before in
-    simp (c .outside3 .ensures, tested {w = w8} direction (c2 .i8-of .result) (twosComplement 1 (getD (c10 .args .s .now) 10 0)) _ (record { sfits = c2 .i8-of .ok }) (c2 .i8-of .ensures) (c1 .is-direction .ensures) ∙ not-true _ (c .before .if4 .taken), tested {w = w32} degrees (c5 .i32-of .result) (twosComplement 4 (littleEndian (c10 .args .s .now) 6 4)) _ (record { sfits = c5 .i32-of .ok }) (c5 .i32-of .ensures ∙ ap (twosComplement 4) (c6 .u32-at .ensures)) (c4 .is-degrees .ensures) ∙ not-false _ (c3 .if3 .left), sym (c8 .is-start-byte .ensures) ∙ not-false _ (c7 .if2 .left), eq-eqb _ _ (c9 .if1 .left))
+    simp (c .outside3 .ensures, tested {w = w8} signedSpeed (c2 .i8-of .result) (twosComplement 1 (getD (c10 .args .s .now) 10 0)) _ (record { sfits = c2 .i8-of .ok }) (c2 .i8-of .ensures) (c1 .is-signed-speed .ensures) ∙ not-true _ (c .before .if4 .taken), tested {w = w32} degrees (c5 .i32-of .result) (twosComplement 4 (littleEndian (c10 .args .s .now) 6 4)) _ (record { sfits = c5 .i32-of .ok }) (c5 .i32-of .ensures ∙ ap (twosComplement 4) (c6 .u32-at .ensures)) (c4 .is-degrees .ensures) ∙ not-false _ (c3 .if3 .left), sym (c8 .is-start-byte .ensures) ∙ not-false _ (c7 .if2 .left), eq-eqb _ _ (c9 .if1 .left))
 
 shared-slice-read-i8-of-2 : tie.Need-shared-slice-read-i8-of-2
 shared-slice-read-i8-of-2 c = search needs
@@ -93,8 +93,8 @@ shared-slice-read-i8-of-2 c = search needs
 i8-of-requires-2 : tie.Need-i8-of-requires-2
 i8-of-requires-2 c κs = search needs
 
-is-direction-requires-2 : tie.Need-is-direction-requires-2
-is-direction-requires-2 c κs = search needs
+is-signed-speed-requires-2 : tie.Need-is-signed-speed-requires-2
+is-signed-speed-requires-2 c κs = search needs
 
 outside-requires-4 : tie.Need-outside-requires-4
 outside-requires-4 c κs = search needs
@@ -115,7 +115,7 @@ returns-5 c =
     let c11 = c10 .before in
     let c12 = c11 .before .before in
     let c13 = c12 .before .before in
-    simp (c .outside4 .ensures, tested {w = w8} direction (c2 .i8-of2 .result) (twosComplement 1 (getD (c13 .args .s .now) 11 0)) _ (record { sfits = c2 .i8-of2 .ok }) (c2 .i8-of2 .ensures) (c1 .is-direction2 .ensures) ∙ not-true _ (c .before .if5 .taken), tested {w = w8} direction (c5 .i8-of .result) (twosComplement 1 (getD (c13 .args .s .now) 10 0)) _ (record { sfits = c5 .i8-of .ok }) (c5 .i8-of .ensures) (c4 .is-direction .ensures) ∙ not-false _ (c3 .if4 .left), tested {w = w32} degrees (c8 .i32-of .result) (twosComplement 4 (littleEndian (c13 .args .s .now) 6 4)) _ (record { sfits = c8 .i32-of .ok }) (c8 .i32-of .ensures ∙ ap (twosComplement 4) (c9 .u32-at .ensures)) (c7 .is-degrees .ensures) ∙ not-false _ (c6 .if3 .left), sym (c11 .is-start-byte .ensures) ∙ not-false _ (c10 .if2 .left), eq-eqb _ _ (c12 .if1 .left))
+    simp (c .outside4 .ensures, tested {w = w8} signedSpeed (c2 .i8-of2 .result) (twosComplement 1 (getD (c13 .args .s .now) 11 0)) _ (record { sfits = c2 .i8-of2 .ok }) (c2 .i8-of2 .ensures) (c1 .is-signed-speed2 .ensures) ∙ not-true _ (c .before .if5 .taken), tested {w = w8} signedSpeed (c5 .i8-of .result) (twosComplement 1 (getD (c13 .args .s .now) 10 0)) _ (record { sfits = c5 .i8-of .ok }) (c5 .i8-of .ensures) (c4 .is-signed-speed .ensures) ∙ not-false _ (c3 .if4 .left), tested {w = w32} degrees (c8 .i32-of .result) (twosComplement 4 (littleEndian (c13 .args .s .now) 6 4)) _ (record { sfits = c8 .i32-of .ok }) (c8 .i32-of .ensures ∙ ap (twosComplement 4) (c9 .u32-at .ensures)) (c7 .is-degrees .ensures) ∙ not-false _ (c6 .if3 .left), sym (c11 .is-start-byte .ensures) ∙ not-false _ (c10 .if2 .left), eq-eqb _ _ (c12 .if1 .left))
 
 ending-outside-requires : tie.Need-ending-outside-requires
 ending-outside-requires c κs = search needs
@@ -141,7 +141,7 @@ returns-6 c =
     let c13 = c12 .before in
     let c14 = c13 .before .before in
     let c15 = c14 .before .before in
-    simp (c .outside5 .ensures, ending-refused (c15 .args .s .now) 12 _ (c1 .ending-outside .ensures) (c .before .if6 .taken), tested {w = w8} direction (c4 .i8-of2 .result) (twosComplement 1 (getD (c15 .args .s .now) 11 0)) _ (record { sfits = c4 .i8-of2 .ok }) (c4 .i8-of2 .ensures) (c3 .is-direction2 .ensures) ∙ not-false _ (c2 .if5 .left), tested {w = w8} direction (c7 .i8-of .result) (twosComplement 1 (getD (c15 .args .s .now) 10 0)) _ (record { sfits = c7 .i8-of .ok }) (c7 .i8-of .ensures) (c6 .is-direction .ensures) ∙ not-false _ (c5 .if4 .left), tested {w = w32} degrees (c10 .i32-of .result) (twosComplement 4 (littleEndian (c15 .args .s .now) 6 4)) _ (record { sfits = c10 .i32-of .ok }) (c10 .i32-of .ensures ∙ ap (twosComplement 4) (c11 .u32-at .ensures)) (c9 .is-degrees .ensures) ∙ not-false _ (c8 .if3 .left), sym (c13 .is-start-byte .ensures) ∙ not-false _ (c12 .if2 .left), eq-eqb _ _ (c14 .if1 .left))
+    simp (c .outside5 .ensures, ending-refused (c15 .args .s .now) 12 _ (c1 .ending-outside .ensures) (c .before .if6 .taken), tested {w = w8} signedSpeed (c4 .i8-of2 .result) (twosComplement 1 (getD (c15 .args .s .now) 11 0)) _ (record { sfits = c4 .i8-of2 .ok }) (c4 .i8-of2 .ensures) (c3 .is-signed-speed2 .ensures) ∙ not-false _ (c2 .if5 .left), tested {w = w8} signedSpeed (c7 .i8-of .result) (twosComplement 1 (getD (c15 .args .s .now) 10 0)) _ (record { sfits = c7 .i8-of .ok }) (c7 .i8-of .ensures) (c6 .is-signed-speed .ensures) ∙ not-false _ (c5 .if4 .left), tested {w = w32} degrees (c10 .i32-of .result) (twosComplement 4 (littleEndian (c15 .args .s .now) 6 4)) _ (record { sfits = c10 .i32-of .ok }) (c10 .i32-of .ensures ∙ ap (twosComplement 4) (c11 .u32-at .ensures)) (c9 .is-degrees .ensures) ∙ not-false _ (c8 .if3 .left), sym (c13 .is-start-byte .ensures) ∙ not-false _ (c12 .if2 .left), eq-eqb _ _ (c14 .if1 .left))
 
 shared-slice-read-t10 : tie.Need-shared-slice-read-t10
 shared-slice-read-t10 c = search needs
@@ -175,7 +175,7 @@ returns-7 c =
     let c16 = c15 .before .before in
     let inside = ending-inside (c16 .args .s .now) 12 (omega arith) (sym (c1 .if6 .left) ∙ c2 .ending-outside .ensures) in
     rw (toZ-ofZ {w = w32} {z = c11 .i32-of .result} (record { sfits = c11 .i32-of .ok }), c11 .i32-of .ensures, c12 .u32-at .ensures, toZ-ofZ {w = w8} {z = c8 .i8-of .result} (record { sfits = c8 .i8-of .ok }), c8 .i8-of .ensures, toZ-ofZ {w = w8} {z = c5 .i8-of2 .result} (record { sfits = c5 .i8-of2 .ok }), c5 .i8-of2 .ensures)
-    (sym (speed-accepted (c16 .args .s .now) (sym (c14 .is-start-byte .ensures) ∙ not-false _ (c13 .if2 .left)) (c16 .pre) (c15 .if1 .left) (tested {w = w32} degrees (c11 .i32-of .result) (twosComplement 4 (littleEndian (c16 .args .s .now) 6 4)) _ (record { sfits = c11 .i32-of .ok }) (c11 .i32-of .ensures ∙ ap (twosComplement 4) (c12 .u32-at .ensures)) (c10 .is-degrees .ensures) ∙ not-false _ (c9 .if3 .left)) (tested {w = w8} direction (c8 .i8-of .result) (twosComplement 1 (getD (c16 .args .s .now) 10 0)) _ (record { sfits = c8 .i8-of .ok }) (c8 .i8-of .ensures) (c7 .is-direction .ensures) ∙ not-false _ (c6 .if4 .left)) (tested {w = w8} direction (c5 .i8-of2 .result) (twosComplement 1 (getD (c16 .args .s .now) 11 0)) _ (record { sfits = c5 .i8-of2 .ok }) (c5 .i8-of2 .ensures) (c4 .is-direction2 .ensures) ∙ not-false _ (c3 .if5 .left)) inside))
+    (sym (speed-accepted (c16 .args .s .now) (sym (c14 .is-start-byte .ensures) ∙ not-false _ (c13 .if2 .left)) (c16 .pre) (c15 .if1 .left) (tested {w = w32} degrees (c11 .i32-of .result) (twosComplement 4 (littleEndian (c16 .args .s .now) 6 4)) _ (record { sfits = c11 .i32-of .ok }) (c11 .i32-of .ensures ∙ ap (twosComplement 4) (c12 .u32-at .ensures)) (c10 .is-degrees .ensures) ∙ not-false _ (c9 .if3 .left)) (tested {w = w8} signedSpeed (c8 .i8-of .result) (twosComplement 1 (getD (c16 .args .s .now) 10 0)) _ (record { sfits = c8 .i8-of .ok }) (c8 .i8-of .ensures) (c7 .is-signed-speed .ensures) ∙ not-false _ (c6 .if4 .left)) (tested {w = w8} signedSpeed (c5 .i8-of2 .result) (twosComplement 1 (getD (c16 .args .s .now) 11 0)) _ (record { sfits = c5 .i8-of2 .ok }) (c5 .i8-of2 .ensures) (c4 .is-signed-speed2 .ensures) ∙ not-false _ (c3 .if5 .left)) inside))
 
 pub start-speed-for-degrees-spec : {M : Type 1} → statement M
 start-speed-for-degrees-spec =
@@ -194,12 +194,12 @@ start-speed-for-degrees-spec =
     returns-3
     shared-slice-read-i8-of
     i8-of-requires
-    is-direction-requires
+    is-signed-speed-requires
     outside-requires-3
     returns-4
     shared-slice-read-i8-of-2
     i8-of-requires-2
-    is-direction-requires-2
+    is-signed-speed-requires-2
     outside-requires-4
     returns-5
     ending-outside-requires

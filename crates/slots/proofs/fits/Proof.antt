@@ -1,6 +1,6 @@
 use mathlib.Core.Path.{sym, _∙_, ap}
 use mir.Syntax.{w8, w32}
-use Rattle.protocol.specs.Form.{direction, degrees}
+use Rattle.protocol.specs.Form.{signedSpeed, degrees}
 use Rattle.slots.proofs.Ranges.{same, tested, slotTest}
 use borrow.Author.Needs.{needs}
 use Rattle.slots.proofs.fits.Statement.{statement}
@@ -75,8 +75,8 @@ is-end-state-requires c κs = search needs
 enum-known-slot-9 : tie.Need-enum-known-slot-9
 enum-known-slot-9 c = search needs
 
-is-direction-requires : tie.Need-is-direction-requires
-is-direction-requires c κs = search needs
+is-signed-speed-requires : tie.Need-is-signed-speed-requires
+is-signed-speed-requires c κs = search needs
 
 enum-known-slot-10 : tie.Need-enum-known-slot-10
 enum-known-slot-10 c = search needs
@@ -134,7 +134,7 @@ returns-16 c = c .is-end-state .ensures ∙ sym (tested (c .before .before .befo
 
 returns-17 : tie.Need-returns-17
 returns-17 c =
-    c .is-direction .ensures ∙ ap direction (same w8 (c .before .before .slot9 .given .0 .0) (c .before .known-told9 .given .0 .1))
+    c .is-signed-speed .ensures ∙ ap signedSpeed (same w8 (c .before .before .slot9 .given .0 .0) (c .before .known-told9 .given .0 .1))
     ∙ sym (tested (c .before .before .before .before .args .slot) _ (c .before .before .before .before .good .0) ∙ ap slotTest (c .before .before .slot9 .given .1))
 
 returns-18 : tie.Need-returns-18
@@ -169,7 +169,7 @@ fits-spec =
     enum-known-slot-8
     is-end-state-requires
     enum-known-slot-9
-    is-direction-requires
+    is-signed-speed-requires
     enum-known-slot-10
     is-degrees-requires
     returns

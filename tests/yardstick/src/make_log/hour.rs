@@ -250,8 +250,8 @@ impl Hour {
         }
     }
 
-    /// Both motors are joined in a virtual port, which has formats and a setup of its own. Each of its values has two
-    /// datasets, a position for each motor.
+    /// Both motors are joined in a virtual port, which has formats and a setup of its own. One command drives both, and
+    /// each value of the port has two datasets, a position for each motor.
     fn pair(&mut self) {
         self.at(36, 0);
         self.down(Form::VirtualConnect, &[1, MOTOR_A, MOTOR_B]);
@@ -260,6 +260,11 @@ impl Hour {
         self.format(PAIR, POSITION, TWO_WIDE);
         self.ask(PAIR, POSITION, 5);
         self.answer(PAIR, POSITION, 5);
+        // Both are sent to a position. 22 for the first command: motor A alone has one only. Then the hub's feedback.
+        for port in [MOTOR_A, PAIR] {
+            self.down(Form::GotoAbsolutePositions, &[port, 0x11, 0x0E, 450, 447, 10, 100, 126, 0]);
+        }
+        self.raw(Way::Up, &[0x05, 0x00, 0x82, PAIR as u8, 0x01]);
         for (minute, position) in [(37, 270), (38, 315), (39, 360), (40, 405), (41, 450)] {
             self.at(minute, 0);
             self.wide(PAIR, &[position, position - 3]);
