@@ -1,5 +1,6 @@
 pub mod Answers
 pub mod Examples
+pub mod MotorExamples
 pub mod FieldTrip
 pub mod FieldsTrip
 pub mod FormTrip

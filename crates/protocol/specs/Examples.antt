@@ -1,13 +1,12 @@
--- The bench examples of document 01 that concern reading, and those of sizes that are wanted and of motor commands, as one table; and sizes,
--- memory lock and motor commands in writing.
+-- The bench examples of document 01 that concern reading, and those of sizes that are wanted, as one table; and sizes and memory lock in writing.
 use Prim.Native.Nat.{ℕ}
 use mathlib.Core.Path.{_≡_}
 use mathlib.Core.List.{List, [], _∷_, map}
 use lib.Ieee.{fin}
-use lib.IntN.{pos, negsuc}
+use lib.IntN.{pos}
 use mathlib.Core.Bool.{false}
 use lib.ListN.{replicate}
-use Rattle.protocol.specs.Field.{natural, integer, real}
+use Rattle.protocol.specs.Field.{natural, real}
 use Rattle.protocol.specs.Form
 use Rattle.protocol.specs.Decode.{Answer, refused, accepted, decode}
 use Rattle.protocol.specs.Encode as Encode
@@ -23,13 +22,13 @@ pub record Example : Type 0 where
   pub bytes : List ℕ
   pub answer : Answer
 
-abbrev down : List ℕ → Answer → Example
+abbrev pub down : List ℕ → Answer → Example
 down s a = record { way = Down; bytes = s; answer = a }
 
-abbrev up : List ℕ → Answer → Example
+abbrev pub up : List ℕ → Answer → Example
 up s a = record { way = Up; bytes = s; answer = a }
 
--- the starred examples, those of the others that concern reading, sizes, motor commands
+-- the starred examples, those of the others that concern reading, and sizes
 abbrev pub examples : List Example
 examples =
     down [] (refused 1 0)
@@ -70,52 +69,19 @@ examples =
     -- memory lock is read
     ∷ down (0x0B ∷ 0x00 ∷ 0x11 ∷ 0x4C ∷ 0x6F ∷ 0x63 ∷ 0x6B ∷ 0x20 ∷ 0x4D ∷ 0x65 ∷ 0x6D ∷ []) (accepted Form.lockMemory [])
     ∷ up (0x04 ∷ 0x00 ∷ 0x13 ∷ 0xFF ∷ []) (accepted Form.lockStatus (natural 0xFF ∷ []))
-    -- motor commands: 90 degrees at speeds of -100 and 100; the greatest degrees, both halves of the start byte 0
-    ∷ down (0x0F ∷ 0x00 ∷ 0x81 ∷ 0x10 ∷ 0x11 ∷ 0x0C ∷ 0x5A ∷ 0x00 ∷ 0x00 ∷ 0x00 ∷ 0x9C ∷ 0x64 ∷ 0x64 ∷ 0x7F ∷ 0x03 ∷ []) (accepted Form.startSpeedForDegrees (natural 16 ∷ natural 0x11 ∷ natural 0x0C ∷ integer (pos 90) ∷ integer (negsuc 99) ∷ integer (pos 100) ∷ natural 100 ∷ natural 127 ∷ natural 3 ∷ []))
-    ∷ down (0x0F ∷ 0x00 ∷ 0x81 ∷ 0x10 ∷ 0x00 ∷ 0x0C ∷ 0x80 ∷ 0x96 ∷ 0x98 ∷ 0x00 ∷ 0x00 ∷ 0xFF ∷ 0x00 ∷ 0x00 ∷ 0x00 ∷ []) (accepted Form.startSpeedForDegrees (natural 16 ∷ natural 0 ∷ natural 0x0C ∷ integer (pos 10000000) ∷ integer (pos 0) ∷ integer (negsuc 0) ∷ natural 0 ∷ natural 0 ∷ natural 0 ∷ []))
-    -- a half of the start byte is 2, degrees are one more or negative, a speed is -101 or 101, power 101, end state 1, profile 4
-    ∷ down (0x0F ∷ 0x00 ∷ 0x81 ∷ 0x10 ∷ 0x21 ∷ 0x0C ∷ 0x5A ∷ 0x00 ∷ 0x00 ∷ 0x00 ∷ 0x9C ∷ 0x64 ∷ 0x64 ∷ 0x7F ∷ 0x03 ∷ []) (refused 7 4)
-    ∷ down (0x0F ∷ 0x00 ∷ 0x81 ∷ 0x10 ∷ 0x12 ∷ 0x0C ∷ 0x5A ∷ 0x00 ∷ 0x00 ∷ 0x00 ∷ 0x9C ∷ 0x64 ∷ 0x64 ∷ 0x7F ∷ 0x03 ∷ []) (refused 7 4)
-    ∷ down (0x0F ∷ 0x00 ∷ 0x81 ∷ 0x10 ∷ 0x11 ∷ 0x0C ∷ 0x81 ∷ 0x96 ∷ 0x98 ∷ 0x00 ∷ 0x9C ∷ 0x64 ∷ 0x64 ∷ 0x7F ∷ 0x03 ∷ []) (refused 7 6)
-    ∷ down (0x0F ∷ 0x00 ∷ 0x81 ∷ 0x10 ∷ 0x11 ∷ 0x0C ∷ 0xFF ∷ 0xFF ∷ 0xFF ∷ 0xFF ∷ 0x9C ∷ 0x64 ∷ 0x64 ∷ 0x7F ∷ 0x03 ∷ []) (refused 7 6)
-    ∷ down (0x0F ∷ 0x00 ∷ 0x81 ∷ 0x10 ∷ 0x11 ∷ 0x0C ∷ 0x5A ∷ 0x00 ∷ 0x00 ∷ 0x00 ∷ 0x9B ∷ 0x64 ∷ 0x64 ∷ 0x7F ∷ 0x03 ∷ []) (refused 7 10)
-    ∷ down (0x0F ∷ 0x00 ∷ 0x81 ∷ 0x10 ∷ 0x11 ∷ 0x0C ∷ 0x5A ∷ 0x00 ∷ 0x00 ∷ 0x00 ∷ 0x9C ∷ 0x65 ∷ 0x64 ∷ 0x7F ∷ 0x03 ∷ []) (refused 7 11)
-    ∷ down (0x0F ∷ 0x00 ∷ 0x81 ∷ 0x10 ∷ 0x11 ∷ 0x0C ∷ 0x5A ∷ 0x00 ∷ 0x00 ∷ 0x00 ∷ 0x9C ∷ 0x64 ∷ 0x65 ∷ 0x7F ∷ 0x03 ∷ []) (refused 7 12)
-    ∷ down (0x0F ∷ 0x00 ∷ 0x81 ∷ 0x10 ∷ 0x11 ∷ 0x0C ∷ 0x5A ∷ 0x00 ∷ 0x00 ∷ 0x00 ∷ 0x9C ∷ 0x64 ∷ 0x64 ∷ 0x01 ∷ 0x03 ∷ []) (refused 7 13)
-    ∷ down (0x0F ∷ 0x00 ∷ 0x81 ∷ 0x10 ∷ 0x11 ∷ 0x0C ∷ 0x5A ∷ 0x00 ∷ 0x00 ∷ 0x00 ∷ 0x9C ∷ 0x64 ∷ 0x64 ∷ 0x7F ∷ 0x04 ∷ []) (refused 7 14)
-    -- an absolute position, the least there is; a speed of 0, and of -1; two positions; two encoders
-    ∷ down (0x0E ∷ 0x00 ∷ 0x81 ∷ 0x00 ∷ 0x01 ∷ 0x0D ∷ 0x00 ∷ 0x00 ∷ 0x00 ∷ 0x80 ∷ 0x01 ∷ 0x64 ∷ 0x7E ∷ 0x00 ∷ []) (accepted Form.gotoAbsolutePosition (natural 0 ∷ natural 1 ∷ natural 0x0D ∷ integer (negsuc 2147483647) ∷ natural 1 ∷ natural 100 ∷ natural 126 ∷ natural 0 ∷ []))
-    ∷ down (0x0E ∷ 0x00 ∷ 0x81 ∷ 0x00 ∷ 0x01 ∷ 0x0D ∷ 0x00 ∷ 0x00 ∷ 0x00 ∷ 0x80 ∷ 0x00 ∷ 0x64 ∷ 0x7E ∷ 0x00 ∷ []) (refused 7 10)
-    ∷ down (0x0E ∷ 0x00 ∷ 0x81 ∷ 0x00 ∷ 0x01 ∷ 0x0D ∷ 0x00 ∷ 0x00 ∷ 0x00 ∷ 0x80 ∷ 0xFF ∷ 0x64 ∷ 0x7E ∷ 0x00 ∷ []) (refused 7 10)
-    ∷ down (0x12 ∷ 0x00 ∷ 0x81 ∷ 0x10 ∷ 0x10 ∷ 0x0E ∷ 0x2C ∷ 0x01 ∷ 0x00 ∷ 0x00 ∷ 0xD4 ∷ 0xFE ∷ 0xFF ∷ 0xFF ∷ 0x32 ∷ 0x50 ∷ 0x00 ∷ 0x01 ∷ []) (accepted Form.gotoAbsolutePositions (natural 16 ∷ natural 0x10 ∷ natural 0x0E ∷ integer (pos 300) ∷ integer (negsuc 299) ∷ natural 50 ∷ natural 80 ∷ natural 0 ∷ natural 1 ∷ []))
-    ∷ down (0x0E ∷ 0x00 ∷ 0x81 ∷ 0x10 ∷ 0x10 ∷ 0x14 ∷ 0x00 ∷ 0x00 ∷ 0x00 ∷ 0x00 ∷ 0xFF ∷ 0xFF ∷ 0xFF ∷ 0xFF ∷ []) (accepted Form.presetEncoders (natural 16 ∷ natural 0x10 ∷ natural 0x14 ∷ integer (pos 0) ∷ integer (negsuc 0) ∷ []))
-    -- the sub command comes first, then the size, each form's own; then the fields; no 81 comes up
-    ∷ down (0x05 ∷ 0x00 ∷ 0x81 ∷ 0x10 ∷ 0x22 ∷ []) (refused 6 6)
-    ∷ down (0x06 ∷ 0x00 ∷ 0x81 ∷ 0x10 ∷ 0x22 ∷ 0x0B ∷ []) (refused 7 5)
-    ∷ down (0x0E ∷ 0x00 ∷ 0x81 ∷ 0x10 ∷ 0x22 ∷ 0x0C ∷ 0x5A ∷ 0x00 ∷ 0x00 ∷ 0x00 ∷ 0x9C ∷ 0x64 ∷ 0x64 ∷ 0x7F ∷ []) (refused 6 15)
-    ∷ down (0x0D ∷ 0x00 ∷ 0x81 ∷ 0x10 ∷ 0x22 ∷ 0x0D ∷ 0x5A ∷ 0x00 ∷ 0x00 ∷ 0x00 ∷ 0x9C ∷ 0x64 ∷ 0x64 ∷ []) (refused 6 14)
-    ∷ down (0x0E ∷ 0x00 ∷ 0x81 ∷ 0x10 ∷ 0x22 ∷ 0x0E ∷ 0x5A ∷ 0x00 ∷ 0x00 ∷ 0x00 ∷ 0x9C ∷ 0x64 ∷ 0x64 ∷ 0x7F ∷ []) (refused 6 18)
-    ∷ down (0x0F ∷ 0x00 ∷ 0x81 ∷ 0x10 ∷ 0x22 ∷ 0x14 ∷ 0x5A ∷ 0x00 ∷ 0x00 ∷ 0x00 ∷ 0x9C ∷ 0x64 ∷ 0x64 ∷ 0x7F ∷ 0x03 ∷ []) (refused 6 14)
-    ∷ up (0x06 ∷ 0x00 ∷ 0x81 ∷ 0x10 ∷ 0x11 ∷ 0x0C ∷ []) (refused 5 2)
-    -- feedback of one port and of two; 32 in the second pair; no pair, half of one, one and a half
-    ∷ up (0x05 ∷ 0x00 ∷ 0x82 ∷ 0x10 ∷ 0x0A ∷ []) (accepted Form.outputFeedback [])
-    ∷ up (0x07 ∷ 0x00 ∷ 0x82 ∷ 0x00 ∷ 0x1F ∷ 0xFF ∷ 0x00 ∷ []) (accepted Form.outputFeedback [])
-    ∷ up (0x05 ∷ 0x00 ∷ 0x82 ∷ 0x10 ∷ 0x20 ∷ []) (refused 7 4)
-    ∷ up (0x07 ∷ 0x00 ∷ 0x82 ∷ 0x20 ∷ 0x1F ∷ 0x20 ∷ 0x20 ∷ []) (refused 7 6)
-    ∷ up (0x03 ∷ 0x00 ∷ 0x82 ∷ []) (refused 6 5)
-    ∷ up (0x04 ∷ 0x00 ∷ 0x82 ∷ 0x10 ∷ []) (refused 6 5)
-    ∷ up (0x06 ∷ 0x00 ∷ 0x82 ∷ 0x10 ∷ 0x20 ∷ 0x11 ∷ []) (refused 6 5)
-    ∷ down (0x05 ∷ 0x00 ∷ 0x82 ∷ 0x10 ∷ 0x0A ∷ []) (refused 5 2)
     ∷ []
 
 -- what the definitions say of every example, and what document 01 says: one statement, `examples-hold` in proofs/Examples.antt
 abbrev read : Example → Answer
 read e = decode (e .way) (e .bytes)
 
-abbrev pub ExamplesHold : Type 0
-ExamplesHold = map read examples ≡ map (λ e. e .answer) examples
+abbrev pub Read : List Example → Type 0
+Read rows = map read rows ≡ map (λ e. e .answer) rows
 
--- ---- writing: sizes, memory lock, which is read only, and motor commands
+abbrev pub ExamplesHold : Type 0
+ExamplesHold = Read examples
+
+-- ---- writing: sizes, and memory lock, which is read only
 
 pub record Writing : Type 0 where
   pub way : Way
@@ -123,7 +89,7 @@ pub record Writing : Type 0 where
   pub opens : List ℕ
   pub answer : Encoded
 
-abbrev writing : Way → Message → List ℕ → Encoded → Writing
+abbrev pub writing : Way → Message → List ℕ → Encoded → Writing
 writing way m opens a = record { way = way; message = m; opens = opens; answer = a }
 
 abbrev counted : ℕ → Combinations
@@ -155,29 +121,13 @@ writings =
     ∷ writing Up (Message'.LockStatus 300) (0x00 ∷ []) (Encode.refused 23 0)
     ∷ writing Down (Message'.LockStatus 0xFF) [] (Encode.refused 5 2)
     ∷ writing Down Message'.GoIntoBootMode [] (encoded (0x0C ∷ 0x00 ∷ 0x10 ∷ 0x4C ∷ 0x50 ∷ 0x46 ∷ 0x32 ∷ 0x2D ∷ 0x42 ∷ 0x6F ∷ 0x6F ∷ 0x74 ∷ []))
-    -- motor commands: the sign of a speed is written; -101, negative degrees, a start byte whose low half is 2
-    ∷ writing Down (Message'.StartSpeedForDegrees 16 0x11 (pos 90) (negsuc 99) (pos 100) 100 127 3) [] (encoded (0x0F ∷ 0x00 ∷ 0x81 ∷ 0x10 ∷ 0x11 ∷ 0x0C ∷ 0x5A ∷ 0x00 ∷ 0x00 ∷ 0x00 ∷ 0x9C ∷ 0x64 ∷ 0x64 ∷ 0x7F ∷ 0x03 ∷ []))
-    ∷ writing Down (Message'.StartSpeedForDegrees 16 0x11 (pos 90) (negsuc 100) (pos 100) 100 127 3) [] (Encode.refused 7 10)
-    ∷ writing Down (Message'.StartSpeedForDegrees 16 0x11 (negsuc 0) (negsuc 100) (pos 100) 100 127 3) [] (Encode.refused 7 6)
-    ∷ writing Down (Message'.StartSpeedForDegrees 16 0x12 (negsuc 0) (negsuc 100) (pos 100) 100 127 3) [] (Encode.refused 7 4)
-    ∷ writing Down (Message'.GotoAbsolutePosition 0 1 (negsuc 2147483647) 1 100 126 0) [] (encoded (0x0E ∷ 0x00 ∷ 0x81 ∷ 0x00 ∷ 0x01 ∷ 0x0D ∷ 0x00 ∷ 0x00 ∷ 0x00 ∷ 0x80 ∷ 0x01 ∷ 0x64 ∷ 0x7E ∷ 0x00 ∷ []))
-    ∷ writing Down (Message'.GotoAbsolutePositions 16 0x10 (pos 300) (negsuc 299) 50 80 0 1) [] (encoded (0x12 ∷ 0x00 ∷ 0x81 ∷ 0x10 ∷ 0x10 ∷ 0x0E ∷ 0x2C ∷ 0x01 ∷ 0x00 ∷ 0x00 ∷ 0xD4 ∷ 0xFE ∷ 0xFF ∷ 0xFF ∷ 0x32 ∷ 0x50 ∷ 0x00 ∷ 0x01 ∷ []))
-    ∷ writing Down (Message'.PresetEncoders 16 0x10 (pos 0) (negsuc 0)) [] (encoded (0x0E ∷ 0x00 ∷ 0x81 ∷ 0x10 ∷ 0x10 ∷ 0x14 ∷ 0x00 ∷ 0x00 ∷ 0x00 ∷ 0x00 ∷ 0xFF ∷ 0xFF ∷ 0xFF ∷ 0xFF ∷ []))
-    ∷ writing Down (Message'.PresetEncoders 16 0x22 (pos 0) (negsuc 0)) (0x00 ∷ []) (Encode.refused 6 14)
-    ∷ writing Up (Message'.PresetEncoders 16 0x10 (pos 0) (negsuc 0)) [] (Encode.refused 5 2)
-    -- feedback of one port and of as many as there is room for; 32 at its place in the message to be written; no pair, half of one, too many
-    ∷ writing Up Message'.OutputFeedback (0x10 ∷ 0x0A ∷ []) (encoded (0x05 ∷ 0x00 ∷ 0x82 ∷ 0x10 ∷ 0x0A ∷ []))
-    ∷ writing Up Message'.OutputFeedback (replicate 124 0x1F) (encoded (127 ∷ 0x00 ∷ 0x82 ∷ replicate 124 0x1F))
-    ∷ writing Up Message'.OutputFeedback (0x20 ∷ 0x1F ∷ 0x20 ∷ 0x20 ∷ []) (Encode.refused 7 6)
-    ∷ writing Up Message'.OutputFeedback [] (Encode.refused 6 5)
-    ∷ writing Up Message'.OutputFeedback (0x10 ∷ []) (Encode.refused 6 5)
-    ∷ writing Up Message'.OutputFeedback (replicate 125 0x20) (Encode.refused 6 5)
-    ∷ writing Up Message'.OutputFeedback (replicate 126 0x1F) (Encode.refused 6 5)
-    ∷ writing Down Message'.OutputFeedback (0x10 ∷ 0x0A ∷ []) (Encode.refused 5 2)
     ∷ []
 
 abbrev written : Writing → Encoded
 written w = encode (w .way) (w .message) (w .opens)
 
+abbrev pub Written : List Writing → Type 0
+Written rows = map written rows ≡ map (λ w. w .answer) rows
+
 abbrev pub WritingsHold : Type 0
-WritingsHold = map written writings ≡ map (λ w. w .answer) writings
+WritingsHold = Written writings

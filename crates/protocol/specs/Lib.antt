@@ -11,3 +11,4 @@ pub mod Answer
 pub mod Encode
 pub mod RoundTrip
 pub mod Examples
+pub mod MotorExamples
