@@ -172,7 +172,7 @@ fn what_the_hour_shows() {
         .collect();
     assert_eq!(negative, [[0, 2, 2, 302, -8], [0, 2, 2, 302, -3]]);
     let refusals: Vec<i64> = lines.iter().map(|line| line[1]).filter(|&it| it != 0).collect();
-    assert_eq!(refusals, [14, 14, 15, 7, 18, 16, 19, 7, 10, 12, 14, 15, 10]);
+    assert_eq!(refusals, [14, 14, 15, 7, 18, 16, 19, 7, 22, 10, 12, 14, 15, 10]);
 }
 
 /// The records of the hour carry the number of the running experiment, and its values do in state 2 and in no other.
