@@ -19,4 +19,4 @@ use Rattle.rules.specs.Examples.{ExamplesHold}
 
 pub examples-hold : ExamplesHold
 unfolding decode decodeWay decodeType decodeForm layout informationType longestModeText startByte signedSpeed degrees endState feedback littleEndian bigEndian ofBits types hubAttachedIo portInformation portModeInformation hubActions downAction virtualPortSetup portOutputCommand effectOf valueLookup judge datasetOf allDatasets datasetAnswer settingsOf sinceAttached viewOfHistory modesOfHistory fullHistory judgeEntry datasetMessage learn wellFormed
-examples-hold = (refl, (refl, refl, refl), (refl, refl, refl, refl), refl, refl, refl, refl, refl, refl, refl, refl, refl, refl, refl, refl, refl, refl, refl, refl, refl, refl, refl)
+examples-hold = (refl, (refl, refl, refl), (refl, refl, refl, refl), refl, refl, refl, refl, refl, refl, refl, refl, refl, refl, refl, refl, refl, refl, refl, refl, refl, refl, refl, refl, refl, refl, refl)

@@ -9,9 +9,10 @@ use lib.Ieee.{fin}
 use lib.IntN.{ℤ, pos, negℤ}
 use lib.ListN.{length}
 use Rattle.protocol.specs.Form.{upFrom}
+use Rattle.protocol.specs.declared.Message.the-variants as Message'
 use Rattle.protocol.specs.declared.Way.the-variants.{Down, Up}
 use Rattle.rules.specs.Answer.{Answer, refused, accepted, outcome}
-use Rattle.rules.specs.Effect.{setup, Formatted}
+use Rattle.rules.specs.Effect.{setup, Unchanged, Formatted, ToPort, ToVirtual, effectOf}
 use Rattle.rules.specs.Facts.{Setup, Format, Settings, Wiring, Unjoined, Joined, Virtual, Facts}
 use Rattle.rules.specs.ValueLookup.{valueExperiment}
 use Rattle.rules.specs.Judge.{widthOf, refusalUnlessVirtual, portsNamed}
@@ -284,24 +285,37 @@ pairs =
     ∷ refuses joined (disconnect 2) 10
     ∷ []
 
--- 81: a virtual port takes all four; a member and an unjoined port take 0D, and the others are 22, after 10
-abbrev commands : List Example
-commands =
+-- 81: a member and an unjoined port take 0D
+abbrev toPhysical : List Example
+toPhysical =
+    accepts motor (toPosition 0)
+    ∷ accepts joined (toPosition 0)
+    ∷ []
+
+-- the others are 22 there, after 10
+abbrev notVirtual : List Example
+notVirtual =
+    refuses motor (forDegrees 0) 22
+    ∷ refuses joined (forDegrees 0) 22
+    ∷ refuses joined (toPositions 1) 22
+    ∷ refuses joined (encoders 1) 22
+    ∷ refuses joined (forDegrees 2) 10
+    ∷ []
+
+-- a virtual port takes all four, until a member is pulled
+abbrev toVirtual : List Example
+toVirtual =
     accepts joined (forDegrees 16)
     ∷ accepts joined (toPosition 16)
     ∷ accepts joined (toPositions 16)
     ∷ accepts joined (encoders 16)
-    ∷ accepts joined (toPosition 0)
-    ∷ accepts motor (toPosition 0)
-    ∷ refuses joined (forDegrees 0) 22
-    ∷ refuses joined (toPositions 1) 22
-    ∷ refuses joined (encoders 1) 22
-    ∷ refuses motor (forDegrees 0) 22
-    ∷ refuses joined (forDegrees 2) 10
-    -- the fields come first; a member that was pulled takes the virtual port with it
-    ∷ offers [] (down (0x0E ∷ 0x00 ∷ 0x81 ∷ 0x00 ∷ 0x21 ∷ 0x14 ∷ 0x00 ∷ 0x00 ∷ 0x00 ∷ 0x00 ∷ 0x00 ∷ 0x00 ∷ 0x00 ∷ 0x00 ∷ [])) (refused 7 4)
     ∷ refuses (joined ++ (detached 1 ∷ [])) (toPositions 16) 10
-    -- no datasets; nothing is changed
+    ∷ []
+
+-- the fields come before the port; no datasets; nothing is changed
+abbrev commands : List Example
+commands =
+    offers [] (down (0x0E ∷ 0x00 ∷ 0x81 ∷ 0x00 ∷ 0x21 ∷ 0x14 ∷ 0x00 ∷ 0x00 ∷ 0x00 ∷ 0x00 ∷ 0x00 ∷ 0x00 ∷ 0x00 ∷ 0x00 ∷ [])) (refused 7 4)
     ∷ hands joined (toPositions 16) 0 (refused 17 0)
     ∷ hands joined (toPositions 0) 0 (refused 22 0)
     ∷ knows (joined ++ (forDegrees 16 ∷ encoders 16 ∷ [])) 16 (present 0x26 (Virtual 0 1))
@@ -455,6 +469,17 @@ Disconnections = map (refusalUnlessVirtual 12) oneOfEach ≡ 10 ∷ 12 ∷ 12 �
 abbrev Commands : Type 0
 Commands = map (refusalUnlessVirtual 22) oneOfEach ≡ 10 ∷ 22 ∷ 22 ∷ 0 ∷ []
 
+-- what 0C, 0D, 0E and 14 to port 7 are to a table: 0D goes to any port, the others to a virtual one
+abbrev CommandEffects : Type 0
+CommandEffects =
+    map (effectOf 0)
+    (Message'.StartSpeedForDegrees 7 0x11 (pos 90) (pos 50) (pos 50) 100 127 3
+    ∷ Message'.GotoAbsolutePosition 7 0x11 (pos 90) 50 100 127 3
+    ∷ Message'.GotoAbsolutePositions 7 0x11 (pos 90) (pos 90) 50 100 127 3
+    ∷ Message'.PresetEncoders 7 0x11 (pos 0) (pos 0)
+    ∷ [])
+    ≡ ToVirtual 7 ∷ ToPort 7 Unchanged ∷ ToVirtual 7 ∷ ToVirtual 7 ∷ []
+
 -- the ports of three pairs
 abbrev PortsOfPairs : Type 0
 PortsOfPairs = portsNamed (16 ∷ 0x0A ∷ 0 ∷ 0x01 ∷ 7 ∷ 0x02 ∷ []) ≡ 16 ∷ 0 ∷ 7 ∷ []
@@ -473,12 +498,16 @@ ExamplesHold =
     × ValueExperiments
     × Disconnections
     × Commands
+    × CommandEffects
     × PortsOfPairs
     × Hold theLog
     × Hold states
     × Hold experiments
     × Hold attachments
     × Hold pairs
+    × Hold toPhysical
+    × Hold notVirtual
+    × Hold toVirtual
     × Hold commands
     × Hold feedbacks
     × Hold sixteenPorts
