@@ -11,7 +11,7 @@ use Rattle.protocol.specs.Properties.{carries}
 use Rattle.protocol.specs.Field.{Value}
 use Rattle.protocol.specs.Form
 use Rattle.protocol.specs.Form.{Form, layout}
-use Rattle.protocol.specs.Types.{Selection, always, select, MessageType, selectors, payload, types, hubProperties, hubActions, hubAlerts, hubAttachedIo, portInformation, portModeInformation, virtualPortSetup, portOutputCommand}
+use Rattle.protocol.specs.Types.{Selection, always, select, MessageType, selectors, payload, types, hubProperties, hubActions, hubAlerts, hubAttachedIo, combinedFormatSetup, portInformation, portModeInformation, virtualPortSetup, portOutputCommand}
 use Rattle.protocol.specs.Decode.{accepted, header, decodeForm, decodeSelection}
 use Rattle.protocol.specs.Answer.{naturalAt, answerOf, messageOf}
 use Rattle.protocol.specs.RoundTrip.{AcceptedIsMessage}
@@ -104,6 +104,12 @@ attached-messages event listed =
     by-test (eqb event 1) Form.attached Form.attachedVirtual P (λ yes p e d h s is. rw (is ∙ eqb-true event 1 yes) refl) λ no2 p e d a b is.
     rw (is ∙ only-one 2 event (rw (no1, no2) at listed)) refl
 
+combined-messages : AreMessages 0x42 combinedFormatSetup
+unfolding combinedFormatSetup layout
+combined-messages sub listed =
+    let P : Form → List Value → Type 0 = λ f vs. naturalAt vs 1 ≡ sub → IsMessage f vs in
+    by-test (eqb sub 1) Form.modeDatasets Form.combinedSetup P (λ yes p s x is. rw (is ∙ eqb-true sub 1 yes) refl) (λ no p s is. refl)
+
 information-messages : AreMessages 0x43 portInformation
 unfolding portInformation layout
 information-messages information listed =
@@ -157,9 +163,9 @@ output-messages sub listed =
 all-messages : (way : Way) → Every AreMessages (types way)
 unfolding types layout
 all-messages Down =
-    (properties-messages Down, (actions-messages Down, (alerts-messages Down, (refl, (refl, (refl, ((λ p i. refl), ((λ p m i. refl), ((λ p m d n. refl), (virtual-messages, (output-messages, tt)))))))))))
+    (properties-messages Down, (actions-messages Down, (alerts-messages Down, (refl, (refl, (refl, ((λ p i. refl), ((λ p m i. refl), ((λ p m d n. refl), (combined-messages, (virtual-messages, (output-messages, tt))))))))))))
 all-messages Up =
-    (properties-messages Up, (actions-messages Up, (alerts-messages Up, (attached-messages, ((λ c e. refl), ((λ v. refl), (information-messages, (mode-messages, ((λ p. refl), ((λ p m d n. refl), (refl, tt)))))))))))
+    (properties-messages Up, (actions-messages Up, (alerts-messages Up, (attached-messages, ((λ c e. refl), ((λ v. refl), (information-messages, (mode-messages, ((λ p. refl), ((λ p w. refl), ((λ p m d n. refl), ((λ p c w. refl), (refl, tt)))))))))))))
 
 pub accepted-is-message : AcceptedIsMessage
 accepted-is-message way s f vs e =

@@ -44,6 +44,10 @@ message-back (Message'.GotoAbsolutePosition p s a v w e u) = refl
 message-back (Message'.GotoAbsolutePositions p s a b v w e u) = refl
 message-back (Message'.PresetEncoders p s l r) = refl
 message-back Message'.OutputFeedback = refl
+message-back (Message'.CombinedSetup p s) = refl
+message-back (Message'.ModeDatasets p x) = refl
+message-back (Message'.PortValueCombined p w) = refl
+message-back (Message'.InputFormatCombined p c w) = refl
 
 pub answers-differ : (a b : Message) → answerOf (Accepted a) ≡ answerOf (Accepted b) → a ≡ b
 answers-differ a b e = sym (message-back a) ∙ ap messageOfAnswer e ∙ message-back b

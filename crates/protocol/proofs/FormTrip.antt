@@ -65,6 +65,10 @@ proper Form.gotoAbsolutePosition = omega arith
 proper Form.gotoAbsolutePositions = omega arith
 proper Form.presetEncoders = omega arith
 proper Form.outputFeedback = omega arith
+proper Form.combinedSetup = omega arith
+proper Form.modeDatasets = omega arith
+proper Form.portValueCombined = omega arith
+proper Form.inputFormatCombined = omega arith
 
 -- ---- what was read is written back
 

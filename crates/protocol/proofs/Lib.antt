@@ -1,6 +1,7 @@
 pub mod Answers
 pub mod Examples
 pub mod MotorExamples
+pub mod CombinedExamples
 pub mod FieldTrip
 pub mod FieldsTrip
 pub mod FormTrip

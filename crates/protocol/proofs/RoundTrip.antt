@@ -138,6 +138,10 @@ form-back Form.gotoAbsolutePosition = refl
 form-back Form.gotoAbsolutePositions = refl
 form-back Form.presetEncoders = refl
 form-back Form.outputFeedback = refl
+form-back Form.combinedSetup = refl
+form-back Form.modeDatasets = refl
+form-back Form.portValueCombined = refl
+form-back Form.inputFormatCombined = refl
 
 same-form : (f : Form) → sameForm f f ≡ true
 same-form f = rw (eq-eqb (formNumber f) (formNumber f) refl, eq-eqb (argument f) (argument f) refl)
@@ -328,6 +332,10 @@ settling (Message'.GotoAbsolutePosition p s a v w e u) = (refl, refl, refl)
 settling (Message'.GotoAbsolutePositions p s a b v w e u) = (refl, refl, refl)
 settling (Message'.PresetEncoders p s l r) = (refl, refl, refl)
 settling Message'.OutputFeedback = (refl, refl, refl)
+settling (Message'.CombinedSetup p s) = (refl, refl, refl)
+settling (Message'.ModeDatasets p x) = (refl, refl, refl)
+settling (Message'.PortValueCombined p w) = (refl, refl, refl)
+settling (Message'.InputFormatCombined p c w) = (refl, refl, refl)
 
 pub read-then-written : ReadThenWritten
 unfolding encode

@@ -16,7 +16,7 @@ use Rattle.protocol.specs.Properties.{carries}
 use Rattle.protocol.specs.Field.{Field, number, highFirst, signed, float, fixed, Value, natural, integer, real, widths, values, readField, readFields}
 use Rattle.protocol.specs.Form
 use Rattle.protocol.specs.Form.{Form, layout, code}
-use Rattle.protocol.specs.Types.{Selection, always, select, MessageType, Row, selectors, payload, types, typeOf, hubProperties, hubActions, hubAlerts, hubAttachedIo, portInformation, portModeInformation, virtualPortSetup, portOutputCommand}
+use Rattle.protocol.specs.Types.{Selection, always, select, MessageType, Row, selectors, payload, types, typeOf, hubProperties, hubActions, hubAlerts, hubAttachedIo, combinedFormatSetup, portInformation, portModeInformation, virtualPortSetup, portOutputCommand}
 use Rattle.protocol.specs.Answer.{naturalAt}
 use Rattle.protocol.specs.Encode.{lowFirst, holds, fieldBytes, wrote, writeFields}
 use Rattle.protocol.specs.declared.Way.{Way}
@@ -161,6 +161,10 @@ attached-leads = (
       (either-fits 4 2 (eqb event 1) Form.attached Form.attachedVirtual (refl, (refl, (refl, tt))) (refl, (refl, (refl, tt)))),
 )
 
+combined-leads : Leads 0x42 2 combinedFormatSetup
+unfolding combinedFormatSetup layout
+combined-leads = (omega arith, λ sub. either-fits 0x42 2 (eqb sub 1) Form.modeDatasets Form.combinedSetup (refl, (refl, (refl, tt))) (refl, (refl, (refl, tt))))
+
 information-leads : Leads 0x43 2 portInformation
 unfolding portInformation layout
 information-leads =
@@ -219,11 +223,11 @@ abbrev TypeLeads : ℕ → MessageType → Type 0
 TypeLeads c t = Leads c (selectors t) t
 
 all-lead : (way : Way) → Every TypeLeads (types way)
-unfolding types hubProperties hubAttachedIo portInformation portModeInformation virtualPortSetup portOutputCommand
+unfolding types hubProperties hubAttachedIo combinedFormatSetup portInformation portModeInformation virtualPortSetup portOutputCommand
 all-lead Down =
-    (property-leads Down, (action-leads Down, (alert-leads Down, ((refl, tt), ((refl, tt), ((refl, tt), ((refl, tt), ((refl, tt), ((refl, tt), (virtual-leads, (output-leads, tt)))))))))))
+    (property-leads Down, (action-leads Down, (alert-leads Down, ((refl, tt), ((refl, tt), ((refl, tt), ((refl, tt), ((refl, tt), ((refl, tt), (combined-leads, (virtual-leads, (output-leads, tt))))))))))))
 all-lead Up =
-    (property-leads Up, (action-leads Up, (alert-leads Up, (attached-leads, ((refl, tt), ((refl, tt), (information-leads, (mode-leads, ((refl, tt), ((refl, tt), ((refl, tt), tt)))))))))))
+    (property-leads Up, (action-leads Up, (alert-leads Up, (attached-leads, ((refl, tt), ((refl, tt), (information-leads, (mode-leads, ((refl, tt), ((refl, tt), ((refl, tt), ((refl, tt), ((refl, tt), tt)))))))))))))
 
 -- every type leads to forms of its own type byte
 pub leads : (way : Way) (c : ℕ) (t : MessageType) → typeOf c (types way) ≡ some t → Leads c (selectors t) t

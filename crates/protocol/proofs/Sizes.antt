@@ -10,7 +10,7 @@ use lib.Dec.{eqb, leb}
 use Rattle.protocol.specs.Form
 use Rattle.protocol.specs.Form.{Form, Rest, nothing, openRun, words, layout, longestModeText, leastRest, whole, fits}
 use Rattle.protocol.specs.Properties.{longest}
-use Rattle.protocol.specs.Types.{MessageType, selectors, types, hubProperties, hubActions, hubAlerts, hubAttachedIo, portInformation, portModeInformation, virtualPortSetup, portOutputCommand}
+use Rattle.protocol.specs.Types.{MessageType, selectors, types, hubProperties, hubActions, hubAlerts, hubAttachedIo, combinedFormatSetup, portInformation, portModeInformation, virtualPortSetup, portOutputCommand}
 use Rattle.protocol.specs.Decode.{longestMessage, fieldsEnd, sizeFits, smallestSize}
 use Rattle.protocol.specs.Sizes.{SmallestSize, LastBefore, SelectorsHeld}
 use Rattle.protocol.specs.declared.Way.{Way}
@@ -112,6 +112,10 @@ bounded Form.gotoAbsolutePosition = (omega arith, omega arith, refl)
 bounded Form.gotoAbsolutePositions = (omega arith, omega arith, refl)
 bounded Form.presetEncoders = (omega arith, omega arith, refl)
 bounded Form.outputFeedback = (omega arith, omega arith, refl)
+bounded Form.combinedSetup = (omega arith, omega arith, refl)
+bounded Form.modeDatasets = (omega arith, omega arith, refl)
+bounded Form.portValueCombined = (omega arith, omega arith, refl)
+bounded Form.inputFormatCombined = (omega arith, omega arith, refl)
 
 pub smallest-size : SmallestSize
 smallest-size f = (least-fits (layout f .rest) (fieldsEnd f) (bounded f .0) (bounded f .2), fits-least (layout f .rest) (fieldsEnd f))
@@ -130,11 +134,11 @@ abbrev Held : ℕ → MessageType → Type 0
 Held c t = LastBefore (selectors t) 0 t
 
 all-held : (way : Way) → Every Held (types way)
-unfolding types hubProperties hubActions hubAlerts hubAttachedIo portInformation portModeInformation virtualPortSetup portOutputCommand
+unfolding types hubProperties hubActions hubAlerts hubAttachedIo combinedFormatSetup portInformation portModeInformation virtualPortSetup portOutputCommand
 all-held Down =
-    (λ p o. refl, (λ a. refl, (λ a o. refl, (refl, (refl, (refl, (refl, (refl, (refl, (λ s. refl, (λ s. refl, tt)))))))))))
+    (λ p o. refl, (λ a. refl, (λ a o. refl, (refl, (refl, (refl, (refl, (refl, (refl, (λ s. refl, (λ s. refl, (λ s. refl, tt))))))))))))
 all-held Up =
-    (λ p o. refl, (λ a. refl, (λ a o. refl, (λ e. refl, (refl, (refl, (λ i. refl, (λ i. refl, (refl, (refl, (refl, tt)))))))))))
+    (λ p o. refl, (λ a. refl, (λ a o. refl, (λ e. refl, (refl, (refl, (λ i. refl, (λ i. refl, (refl, (refl, (refl, (refl, (refl, tt)))))))))))))
 
 pub selectors-held : SelectorsHeld
 selectors-held way c t e = found Held (types way) (all-held way) c t e

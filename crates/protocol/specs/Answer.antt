@@ -53,6 +53,10 @@ formOf (Message'.GotoAbsolutePosition p s a v w e u) = Form.gotoAbsolutePosition
 formOf (Message'.GotoAbsolutePositions p s a b v w e u) = Form.gotoAbsolutePositions
 formOf (Message'.PresetEncoders p s l r) = Form.presetEncoders
 formOf Message'.OutputFeedback = Form.outputFeedback
+formOf (Message'.CombinedSetup p s) = Form.combinedSetup
+formOf (Message'.ModeDatasets p x) = Form.modeDatasets
+formOf (Message'.PortValueCombined p w) = Form.portValueCombined
+formOf (Message'.InputFormatCombined p c w) = Form.inputFormatCombined
 
 abbrev combined : Combinations → List Value
 combined c =
@@ -107,6 +111,10 @@ valuesOf (Message'.GotoAbsolutePosition p s a v w e u) = natural p ∷ natural s
 valuesOf (Message'.GotoAbsolutePositions p s a b v w e u) = natural p ∷ natural s ∷ natural 0x0E ∷ integer a ∷ integer b ∷ natural v ∷ natural w ∷ natural e ∷ natural u ∷ []
 valuesOf (Message'.PresetEncoders p s l r) = natural p ∷ natural s ∷ natural 0x14 ∷ integer l ∷ integer r ∷ []
 valuesOf Message'.OutputFeedback = []
+valuesOf (Message'.CombinedSetup p s) = natural p ∷ natural s ∷ []
+valuesOf (Message'.ModeDatasets p x) = natural p ∷ natural 1 ∷ natural x ∷ []
+valuesOf (Message'.PortValueCombined p w) = natural p ∷ natural w ∷ []
+valuesOf (Message'.InputFormatCombined p c w) = natural p ∷ natural c ∷ natural w ∷ []
 
 abbrev pub answerOf : Reading → Answer
 answerOf (Accepted m) = accepted (formOf m) (valuesOf m)
@@ -189,6 +197,10 @@ messageOf Form.gotoAbsolutePosition vs = Message'.GotoAbsolutePosition (naturalA
 messageOf Form.gotoAbsolutePositions vs = Message'.GotoAbsolutePositions (naturalAt vs 0) (naturalAt vs 1) (integerAt vs 3) (integerAt vs 4) (naturalAt vs 5) (naturalAt vs 6) (naturalAt vs 7) (naturalAt vs 8)
 messageOf Form.presetEncoders vs = Message'.PresetEncoders (naturalAt vs 0) (naturalAt vs 1) (integerAt vs 3) (integerAt vs 4)
 messageOf Form.outputFeedback vs = Message'.OutputFeedback
+messageOf Form.combinedSetup vs = Message'.CombinedSetup (naturalAt vs 0) (naturalAt vs 1)
+messageOf Form.modeDatasets vs = Message'.ModeDatasets (naturalAt vs 0) (naturalAt vs 2)
+messageOf Form.portValueCombined vs = Message'.PortValueCombined (naturalAt vs 0) (naturalAt vs 1)
+messageOf Form.inputFormatCombined vs = Message'.InputFormatCombined (naturalAt vs 0) (naturalAt vs 1) (naturalAt vs 2)
 
 abbrev pub messageOfAnswer : Answer → Message
 messageOfAnswer (accepted f vs) = messageOf f vs

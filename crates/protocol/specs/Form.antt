@@ -1,10 +1,10 @@
 -- The forms of document 01's table, as data: the fields after the header, left to right, selectors among them, and what follows them.
 use Prim.Native.Nat.{ℕ, zero, suc, _+_, _*_, _-_, _/_, _%_}
-use mathlib.Core.Bool.{Bool, true, cond, _&&_}
+use mathlib.Core.Bool.{Bool, true, cond, not, _&&_}
 use mathlib.Core.List.{List, [], _∷_}
 use mathlib.Core.Option.{Option, none, some}
 use lib.Dec.{leb, ltb, eqb}
-use lib.ListN.{length, getD, drop}
+use lib.ListN.{length, getD, take, drop}
 use Rattle.protocol.specs.Number.{littleEndian}
 use Rattle.protocol.specs.Rule.{Rule, any, upTo, between, oneOf, either, SignedRule, anySigned, fromMinus}
 use Rattle.protocol.specs.Field.{Field, number, highFirst, signed, float, fixed, Value, natural, Fields, outside, values}
@@ -50,6 +50,10 @@ pub data Form : Type 0 where
   gotoAbsolutePositions : Form
   presetEncoders : Form
   outputFeedback : Form
+  combinedSetup : Form
+  modeDatasets : Form
+  portValueCombined : Form
+  inputFormatCombined : Form
 
 -- the type byte of a form
 abbrev pub code : Form → ℕ
@@ -91,6 +95,10 @@ code gotoAbsolutePosition = 0x81
 code gotoAbsolutePositions = 0x81
 code presetEncoders = 0x81
 code outputFeedback = 0x82
+code combinedSetup = 0x42
+code modeDatasets = 0x42
+code portValueCombined = 0x46
+code inputFormatCombined = 0x48
 
 -- the forms numbered from 1, and the selector that one has as its argument
 abbrev pub formNumber : Form → ℕ
@@ -132,6 +140,10 @@ formNumber gotoAbsolutePosition = 35
 formNumber gotoAbsolutePositions = 36
 formNumber presetEncoders = 37
 formNumber outputFeedback = 38
+formNumber combinedSetup = 39
+formNumber modeDatasets = 40
+formNumber portValueCombined = 41
+formNumber inputFormatCombined = 42
 
 abbrev pub argument : Form → ℕ
 argument propertyCommand = 0
@@ -172,6 +184,10 @@ argument gotoAbsolutePosition = 0
 argument gotoAbsolutePositions = 0
 argument presetEncoders = 0
 argument outputFeedback = 0
+argument combinedSetup = 0
+argument modeDatasets = 0
+argument portValueCombined = 0
+argument inputFormatCombined = 0
 
 -- the forms by their numbers and argument; no form has number 0
 abbrev pub formsBy : ℕ → List Form
@@ -215,6 +231,10 @@ formsBy a =
     ∷ gotoAbsolutePositions
     ∷ presetEncoders
     ∷ outputFeedback
+    ∷ combinedSetup
+    ∷ modeDatasets
+    ∷ portValueCombined
+    ∷ inputFormatCombined
     ∷ []
 
 abbrev pub sameForm : Form → Form → Bool
@@ -311,6 +331,17 @@ feedback run i = cond (eqb (i % 2) 0) true (upTo 0x1F (getD run i 0))
 abbrev pub feedbackPairs : Run
 feedbackPairs = items 2 feedback
 
+-- 42: mode in the high half and dataset in the low, no byte twice: none is among those before it
+unfoldable pub firstTime : List ℕ → ℕ → Bool
+firstTime run i = not (oneOf (take i run) (getD run i 0))
+
+abbrev pub modeDatasetList : Run
+modeDatasetList = items 1 firstTime
+
+-- the most entries of such a list: a port table keeps one too
+abbrev pub mostEntries : ℕ
+mostEntries = 16
+
 -- LPF2-Boot
 abbrev pub bootString : List ℕ
 bootString = 0x4C ∷ 0x50 ∷ 0x46 ∷ 0x32 ∷ 0x2D ∷ 0x42 ∷ 0x6F ∷ 0x6F ∷ 0x74 ∷ []
@@ -368,6 +399,10 @@ layout gotoAbsolutePosition = only (port ∷ byte startByte ∷ selector ∷ pos
 layout gotoAbsolutePositions = only (port ∷ byte startByte ∷ selector ∷ position ∷ position ∷ speed ∷ ending)
 layout presetEncoders = only (port ∷ byte startByte ∷ selector ∷ position ∷ position ∷ [])
 layout outputFeedback = endingIn [] (openRun 2 124 feedbackPairs)
+layout combinedSetup = only (port ∷ selector ∷ [])
+layout modeDatasets = endingIn (port ∷ selector ∷ byte any ∷ []) (openRun 1 mostEntries modeDatasetList)
+layout portValueCombined = endingIn (port ∷ number 2 any ∷ []) (openRun 1 121 anyBytes)
+layout inputFormatCombined = only (port ∷ byte any ∷ number 2 any ∷ [])
 
 -- the least bytes that follow the fields: of words one
 abbrev pub leastRest : Rest → ℕ

@@ -12,3 +12,4 @@ pub mod Encode
 pub mod RoundTrip
 pub mod Examples
 pub mod MotorExamples
+pub mod CombinedExamples

@@ -70,6 +70,10 @@ hubAttachedIo =
     select 1 (oneOf (0 ∷ 1 ∷ 2 ∷ [])) λ event.
     always (cond (eqb event 0) Form.detached (cond (eqb event 1) Form.attached Form.attachedVirtual))
 
+-- 42: port, [sub 4]
+unfoldable pub combinedFormatSetup : MessageType
+combinedFormatSetup = select 1 (either (between 1 4) (oneOf (6 ∷ []))) λ sub. always (cond (eqb sub 1) Form.modeDatasets Form.combinedSetup)
+
 -- 43: port, [type 4]
 unfoldable pub portInformation : MessageType
 portInformation = select 1 (oneOf (1 ∷ 2 ∷ [])) λ information. always (cond (eqb information 1) Form.portModes Form.portCombinations)
@@ -116,6 +120,7 @@ types Down =
     ∷ row 0x21 (plain Form.portInformationRequest)
     ∷ row 0x22 (plain Form.modeInformationRequest)
     ∷ row 0x41 (plain Form.inputFormatSetup)
+    ∷ row 0x42 combinedFormatSetup
     ∷ row 0x61 virtualPortSetup
     ∷ row 0x81 portOutputCommand
     ∷ []
@@ -129,7 +134,9 @@ types Up =
     ∷ row 0x43 portInformation
     ∷ row 0x44 portModeInformation
     ∷ row 0x45 (plain Form.portValue)
+    ∷ row 0x46 (plain Form.portValueCombined)
     ∷ row 0x47 (plain Form.inputFormat)
+    ∷ row 0x48 (plain Form.inputFormatCombined)
     ∷ row 0x82 (plain Form.outputFeedback)
     ∷ []
 

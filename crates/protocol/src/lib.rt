@@ -1,6 +1,6 @@
 // The messages of LEGO Wireless Protocol 3.0 as values. Definitions and laws only: no function.
 //
-// Names follow document 002. Open bytes (names, symbols, texts, values, feedback) are not in a
+// Names follow document 002. Open bytes (names, symbols, texts, values, feedback, lists of entries) are not in a
 // message: they stay where they are, in the caller's own slice.
 
 // Where a message goes: down to the hub, or up from it.
@@ -244,6 +244,27 @@ pub enum Message {
     },
     // 0x82; the pairs of port and feedback are open bytes
     OutputFeedback,
+    // 0x42, sub commands 2, 3, 4 and 6
+    CombinedSetup {
+        port: u8,
+        sub_command: u8,
+    },
+    // 0x42, sub command 1; the list, a byte an entry with mode and dataset, is open bytes
+    ModeDatasets {
+        port: u8,
+        combination: u8,
+    },
+    // 0x46; the values are open bytes
+    PortValueCombined {
+        port: u8,
+        pointers: u16,
+    },
+    // 0x48
+    InputFormatCombined {
+        port: u8,
+        control: u8,
+        pointers: u16,
+    },
 }
 
 // What reading gives: the message, or the number and place of the refusal.
