@@ -7,8 +7,8 @@ use mathlib.Core.List.{List}
 use mathlib.Core.Option.{Option, none, some}
 use borrow.Author.Tests.{eq-eqb, ne-eqb, le-leb, lt-leb}
 use lib.ListN.{length, getD}
-use Rattle.protocol.specs.Form.{feedback, feedbackPairs, wrongFrom, wrongByte}
-use Rattle.hub_messages.specs.Feedback.{indexOr, wrongFeedback}
+use Rattle.protocol.specs.Form.{feedback, feedbackPairs, wrongFrom}
+use Rattle.hub_messages.specs.Runs.{indexOr, wrongIndex}
 
 module _ (pairs : List ℕ) where
   -- a port may be any byte
@@ -36,17 +36,17 @@ module _ (pairs : List ℕ) where
     pub even : port % 2 ≡ 0
     pub count : ℕ
     pub size : port + count ≡ length pairs
-    pub is : wrongFeedback pairs ≡ indexOr (length pairs) (wrongFrom feedback pairs port count)
+    pub is : wrongIndex feedbackPairs pairs ≡ indexOr (length pairs) (wrongFrom feedback pairs port count)
 
   pub at-first : Left 1
-  unfolding wrongFeedback
+  unfolding wrongIndex
   at-first = record { port = 0; before = refl; even = refl; count = length pairs; size = omega arith; is = refl }
 
   -- a whole pair is left
   two : (i : ℕ) (l : Left i) → i < length pairs → l .count ≡ suc (suc (l .count - 2))
   two i l h = omega (arith, l .before, l .size)
 
-  pub is-wrong : (i : ℕ) → Left i → i < length pairs → 31 < getD pairs i 0 → i ≡ wrongFeedback pairs
+  pub is-wrong : (i : ℕ) → Left i → i < length pairs → 31 < getD pairs i 0 → i ≡ wrongIndex feedbackPairs pairs
   is-wrong i l h k =
       let wrong = pair-wrong (l .port) (l .count - 2) (l .even) (rw (l .before) at k) in
       sym (l .is ∙ ap (λ (n : ℕ). indexOr (length pairs) (wrongFrom feedback pairs (l .port) n)) (two i l h) ∙ ap (indexOr (length pairs)) wrong ∙ sym (l .before))
@@ -68,35 +68,5 @@ module _ (pairs : List ℕ) where
   none-left i l (suc zero) e h = port-last (l .port) (l .even)
   none-left i l (suc (suc n)) e h = absurd (omega arith)
 
-  pub at-end : (i : ℕ) → Left i → length pairs ≤ i → length pairs ≡ wrongFeedback pairs
+  pub at-end : (i : ℕ) → Left i → length pairs ≤ i → length pairs ≡ wrongIndex feedbackPairs pairs
   at-end i l h = sym (l .is ∙ ap (indexOr (length pairs)) (none-left i l (l .count) refl (omega (arith, l .size, l .before))))
-
--- a wrong byte is one of those that were looked at
-abbrev Inside : ℕ → Option ℕ → Type 0
-Inside size wrong = (indexOr size wrong ≤ size) × (indexOr size wrong ≡ size → wrong ≡ none)
-
-looked-at : (test : List ℕ → ℕ → Bool) (run : List ℕ) (i n size : ℕ) → i + n ≡ size → Inside size (wrongFrom test run i n)
-looked-at test run i zero size h = (omega arith, λ k. refl)
-looked-at test run i (suc n) size h = go (test run i) (looked-at test run (suc i) n size (omega arith))
-  where
-    go : (b : Bool) → Inside size (wrongFrom test run (suc i) n) → Inside size (cond b (wrongFrom test run (suc i) n) (some i))
-    go true deeper = deeper
-    go false deeper = (omega arith, λ k. absurd (omega arith))
-
--- so its index says whether there is one
-module _ (pairs : List ℕ) where
-  pub index-few : wrongFeedback pairs ≤ length pairs
-  unfolding wrongFeedback
-  index-few = looked-at feedback pairs 0 (length pairs) (length pairs) (omega arith) .0
-
-  pub all-right : wrongFeedback pairs ≡ length pairs → wrongByte feedbackPairs pairs ≡ none
-  unfolding wrongFeedback
-  all-right e = looked-at feedback pairs 0 (length pairs) (length pairs) (omega arith) .1 e
-
-  pub one-wrong : wrongFeedback pairs < length pairs → wrongByte feedbackPairs pairs ≡ some (wrongFeedback pairs)
-  unfolding wrongFeedback
-  one-wrong h = go (wrongByte feedbackPairs pairs) h
-    where
-      go : (wrong : Option ℕ) → indexOr (length pairs) wrong < length pairs → wrong ≡ some (indexOr (length pairs) wrong)
-      go none k = absurd (omega arith)
-      go (some i) k = refl

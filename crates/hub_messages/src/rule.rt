@@ -2,7 +2,7 @@
 ghost use mathlib.Core.Path.{_≡_};
 ghost use Rattle.protocol.specs.Form as Form;
 ghost use Rattle.protocol.specs.Rule as Rule;
-ghost use Rattle.hub_messages.specs.Feedback.{wrongFeedback};
+ghost use Rattle.hub_messages.specs.Runs.{wrongIndex};
 
 pub fn between(least: u8, n: u8, most: u8) -> bool
     ensures { λ r. ⌜ r ≡ Rule.between least most n ⌝ }
@@ -85,7 +85,7 @@ pub fn is_end_state(state: u8) -> bool
 // 82: the index of the first feedback over 31 among pairs of port and feedback; their number of bytes
 // where there is none.
 pub fn wrong_feedback(pairs: &[u8]) -> usize
-    ensures { λ r. ⌜ r ≡ wrongFeedback (now (pairs .entry)) ⌝ }
+    ensures { λ r. ⌜ r ≡ wrongIndex Form.feedbackPairs (now (pairs .entry)) ⌝ }
 {
     let mut i = 1;
     while i < pairs.len() {
@@ -95,4 +95,32 @@ pub fn wrong_feedback(pairs: &[u8]) -> usize
         i += 2;
     }
     pairs.len()
+}
+
+// Whether a byte is one of others.
+fn is_among(bytes: &[u8], byte: u8) -> bool
+    ensures { λ r. ⌜ r ≡ Rule.oneOf (now (bytes .entry)) byte ⌝ }
+{
+    let mut i = 0;
+    while i < bytes.len() {
+        if byte == bytes[i] {
+            return true;
+        }
+        i += 1;
+    }
+    false
+}
+
+// 42: the index of the first entry that is one of those before it; their number where there is none.
+pub fn repeated_entry(entries: &[u8]) -> usize
+    ensures { λ r. ⌜ r ≡ wrongIndex Form.modeDatasetList (now (entries .entry)) ⌝ }
+{
+    let mut i = 0;
+    while i < entries.len() {
+        if is_among(&entries[..i], entries[i]) {
+            return i;
+        }
+        i += 1;
+    }
+    entries.len()
 }

@@ -9,10 +9,10 @@ use lib.Dec.{eqb, leb}
 use lib.ListN.{length, length-drop, take, drop}
 use lib.Seq.{take-all}
 use Rattle.protocol.specs.Form
-use Rattle.protocol.specs.Form.{layout}
+use Rattle.protocol.specs.Form.{layout, feedbackPairs}
 use Rattle.protocol.specs.Decode.{accepted, refused, wrongSize, sizeFits, decodeForm}
-use Rattle.hub_messages.specs.Feedback.{wrongFeedback}
-use Rattle.hub_messages.proofs.Feedback.{index-few, all-right, one-wrong}
+use Rattle.hub_messages.specs.Runs.{wrongIndex}
+use Rattle.hub_messages.proofs.Runs.{index-few, all-right, one-wrong}
 
 and-false : (a : Bool) → (a && false) ≡ false
 and-false true = refl
@@ -45,23 +45,23 @@ module _ (s : List ℕ) where
   no-size e = rw e
 
   -- the index of a wrong feedback, in the part of the message that is looked through
-  module _ (i : ℕ) (is : i ≡ wrongFeedback (take (length s - 3) (drop 3 s))) where
+  module _ (i : ℕ) (is : i ≡ wrongIndex feedbackPairs (take (length s - 3) (drop 3 s))) where
     pairs-are : take (length s - 3) (drop 3 s) ≡ drop 3 s
     pairs-are = take-all (length s - 3) (drop 3 s) (rw length-drop (omega arith))
 
-    index : i ≡ wrongFeedback (drop 3 s)
+    index : i ≡ wrongIndex feedbackPairs (drop 3 s)
     index = rw pairs-are at is
 
     pub feedback-wrong : sizeFits Form.outputFeedback (length s) ≡ true → i < length s - 3 → decodeForm Form.outputFeedback s ≡ refused 7 (3 + i)
     unfolding decodeForm layout
     feedback-wrong e h =
-        let less : wrongFeedback (drop 3 s) < length (drop 3 s) = rw (length-drop, ← index) h in
-        rw (e, one-wrong (drop 3 s) less, ← index)
+        let less : wrongIndex feedbackPairs (drop 3 s) < length (drop 3 s) = rw (length-drop, ← index) h in
+        rw (e, one-wrong feedbackPairs (drop 3 s) less, ← index)
 
     pub feedback-right : sizeFits Form.outputFeedback (length s) ≡ true → length s - 3 ≤ i → decodeForm Form.outputFeedback s ≡ accepted Form.outputFeedback []
     unfolding decodeForm layout
     feedback-right e h =
-        let few : wrongFeedback (drop 3 s) ≤ length (drop 3 s) = index-few (drop 3 s) in
+        let few : wrongIndex feedbackPairs (drop 3 s) ≤ length (drop 3 s) = index-few feedbackPairs (drop 3 s) in
         let size : length (drop 3 s) ≡ length s - 3 = length-drop 3 s in
-        let all : wrongFeedback (drop 3 s) ≡ length (drop 3 s) = omega (arith, index) in
-        rw (e, all-right (drop 3 s) all)
+        let all : wrongIndex feedbackPairs (drop 3 s) ≡ length (drop 3 s) = omega (arith, index) in
+        rw (e, all-right feedbackPairs (drop 3 s) all)

@@ -15,8 +15,8 @@ use Rattle.protocol.specs.Form.{nothing, layout, wrongByte, feedbackPairs}
 use Rattle.protocol.specs.Answer.{formOf}
 use Rattle.protocol.specs.declared.Message.{Message}
 use Rattle.protocol.specs.declared.Message.the-variants as Message'
-use Rattle.hub_messages.specs.Feedback.{wrongFeedback}
-use Rattle.hub_messages.proofs.Feedback.{index-few, all-right, one-wrong}
+use Rattle.hub_messages.specs.Runs.{wrongIndex}
+use Rattle.hub_messages.proofs.Runs.{index-few, all-right, one-wrong}
 use Rattle.writer.specs.Open.{openFits, placeFrom, openOutside}
 
 -- the messages that end with their fields, by their places in the enum
@@ -123,9 +123,9 @@ module _ (m : Message) (opens : List ℕ) (is : m ≡ Message'.OutputFeedback) w
   unfolding openOutside layout
   found = ap (λ (k : Message). openOutside k opens) is
 
-  module _ (i : ℕ) (first : i ≡ wrongFeedback opens) where
+  module _ (i : ℕ) (first : i ≡ wrongIndex feedbackPairs opens) where
     pub at-feedback : i < length opens → 3 + i ≡ openOutside m opens
-    at-feedback h = sym (found ∙ ap (placeFrom 3) (one-wrong opens (rw first at h)) ∙ ap (λ (n : ℕ). 3 + n) (sym first))
+    at-feedback h = sym (found ∙ ap (placeFrom 3) (one-wrong feedbackPairs opens (rw first at h)) ∙ ap (λ (n : ℕ). 3 + n) (sym first))
 
     pub no-feedback : length opens ≤ i → 0 ≡ openOutside m opens
-    no-feedback h = sym (found ∙ ap (placeFrom 3) (all-right opens (omega (arith, index-few opens))))
+    no-feedback h = sym (found ∙ ap (placeFrom 3) (all-right feedbackPairs opens (omega (arith, index-few feedbackPairs opens))))
