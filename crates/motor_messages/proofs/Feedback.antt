@@ -1,18 +1,16 @@
 -- Reading an 82: its sizes, and the place of a wrong feedback.
 use Prim.Native.Nat.{ℕ, _+_, _-_, _%_, _≤_, _<_}
-use native.Mathlib.Omega.{arith}
 use mathlib.Core.Path.{_≡_, refl}
 use mathlib.Core.Bool.{Bool, true, false, _&&_}
 use mathlib.Core.List.{List, []}
 use borrow.Author.Tests.{eq-eqb, ne-eqb, le-leb, lt-leb}
 use lib.Dec.{eqb, leb}
-use lib.ListN.{length, length-drop, take, drop}
-use lib.Seq.{take-all}
+use lib.ListN.{length, take, drop}
 use Rattle.protocol.specs.Form
 use Rattle.protocol.specs.Form.{layout, feedbackPairs}
 use Rattle.protocol.specs.Decode.{accepted, refused, wrongSize, sizeFits, decodeForm}
 use Rattle.hub_messages.specs.Runs.{wrongIndex}
-use Rattle.hub_messages.proofs.Runs.{index-few, all-right, one-wrong}
+use Rattle.hub_messages.proofs.Runs.{rest-wrong, rest-right}
 
 and-false : (a : Bool) → (a && false) ≡ false
 and-false true = refl
@@ -46,22 +44,10 @@ module _ (s : List ℕ) where
 
   -- the index of a wrong feedback, in the part of the message that is looked through
   module _ (i : ℕ) (is : i ≡ wrongIndex feedbackPairs (take (length s - 3) (drop 3 s))) where
-    pairs-are : take (length s - 3) (drop 3 s) ≡ drop 3 s
-    pairs-are = take-all (length s - 3) (drop 3 s) (rw length-drop (omega arith))
-
-    index : i ≡ wrongIndex feedbackPairs (drop 3 s)
-    index = rw pairs-are at is
-
     pub feedback-wrong : sizeFits Form.outputFeedback (length s) ≡ true → i < length s - 3 → decodeForm Form.outputFeedback s ≡ refused 7 (3 + i)
     unfolding decodeForm layout
-    feedback-wrong e h =
-        let less : wrongIndex feedbackPairs (drop 3 s) < length (drop 3 s) = rw (length-drop, ← index) h in
-        rw (e, one-wrong feedbackPairs (drop 3 s) less, ← index)
+    feedback-wrong e h = rw (e, rest-wrong feedbackPairs s 3 i is h)
 
     pub feedback-right : sizeFits Form.outputFeedback (length s) ≡ true → length s - 3 ≤ i → decodeForm Form.outputFeedback s ≡ accepted Form.outputFeedback []
     unfolding decodeForm layout
-    feedback-right e h =
-        let few : wrongIndex feedbackPairs (drop 3 s) ≤ length (drop 3 s) = index-few feedbackPairs (drop 3 s) in
-        let size : length (drop 3 s) ≡ length s - 3 = length-drop 3 s in
-        let all : wrongIndex feedbackPairs (drop 3 s) ≡ length (drop 3 s) = omega (arith, index) in
-        rw (e, all-right feedbackPairs (drop 3 s) all)
+    feedback-right e h = rw (e, rest-right feedbackPairs s 3 i is h)
