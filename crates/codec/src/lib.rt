@@ -1,5 +1,8 @@
 // Reading messages of LEGO Wireless Protocol 3.0, each function proved equal to its definition in
 // the crate `protocol`.
+use combined_messages::combined_format_setup;
+use combined_messages::input_format_combined;
+use combined_messages::port_value_combined;
 use hub_messages::firmware::go_into_boot_mode;
 use hub_messages::firmware::lock_memory;
 use hub_messages::firmware::lock_status;
@@ -75,6 +78,7 @@ fn read_down(s: &[u8]) -> Reading
         0x21 => port_information_request(s),
         0x22 => mode_information_request(s),
         0x41 => input_format_setup(s),
+        0x42 => combined_format_setup(s),
         0x61 => virtual_port_setup(s),
         0x81 => port_output_command(s),
         _ => refuse(5, 2),
@@ -97,14 +101,16 @@ fn read_up(s: &[u8]) -> Reading
         0x43 => port_information(s),
         0x44 => port_mode_information(s),
         0x45 => port_value(s),
+        0x46 => port_value_combined(s),
         0x47 => input_format(s),
+        0x48 => input_format_combined(s),
         0x82 => output_feedback(s),
         _ => refuse(5, 2),
     }
 }
 
-// The open bytes of an accepted message (a name, symbol, text, value or feedback): that part of the
-// caller's own message. Empty for any other message.
+// The open bytes of an accepted message (a name, symbol, text, value, feedback or list of entries): that
+// part of the caller's own message. Empty for any other message.
 pub fn open_part(message: &[u8], way: Way) -> &[u8]
     ensures { λ r. ⌜ now r ≡ openPart way (now (message .entry)) ⌝ }
 {
@@ -141,6 +147,14 @@ fn open_start(m: Message, size: usize) -> usize
         } => 6,
         Message::PortValue { port: _ } => 4,
         Message::OutputFeedback => 3,
+        Message::ModeDatasets {
+            port: _,
+            combination: _,
+        } => 6,
+        Message::PortValueCombined {
+            port: _,
+            pointers: _,
+        } => 6,
         _ => size,
     }
 }

@@ -23,7 +23,7 @@ nothing-left : (s : List ℕ) (n : ℕ) → length s ≡ n → [] ≡ drop n s
 nothing-left s n e = sym (drop-of-length-le s (le-of-eq e))
 
 abbrev others : List ℕ
-others = 0 ∷ 2 ∷ 3 ∷ 4 ∷ 5 ∷ 6 ∷ 7 ∷ 8 ∷ 9 ∷ 10 ∷ 11 ∷ 12 ∷ 13 ∷ 14 ∷ 15 ∷ 16 ∷ 17 ∷ 18 ∷ 19 ∷ 20 ∷ 21 ∷ 22 ∷ 24 ∷ 25 ∷ 26 ∷ 27 ∷ 28 ∷ 30 ∷ 31 ∷ 32 ∷ 33 ∷ 34 ∷ 35 ∷ 36 ∷ []
+others = 0 ∷ 2 ∷ 3 ∷ 4 ∷ 5 ∷ 6 ∷ 7 ∷ 8 ∷ 9 ∷ 10 ∷ 11 ∷ 12 ∷ 13 ∷ 14 ∷ 15 ∷ 16 ∷ 17 ∷ 18 ∷ 19 ∷ 20 ∷ 21 ∷ 22 ∷ 24 ∷ 25 ∷ 26 ∷ 27 ∷ 28 ∷ 30 ∷ 31 ∷ 32 ∷ 33 ∷ 34 ∷ 35 ∷ 36 ∷ 38 ∷ 41 ∷ []
 
 no-open : (m : Message) → OneOf others (tagOf the-type m) → (s : List ℕ) (n : ℕ) → length s ≡ n → openOf s (accepted (formOf m) (valuesOf m)) ≡ drop n s
 unfolding layout
@@ -65,6 +65,10 @@ no-open (Message'.GotoAbsolutePosition p b a v w e′ u) t s n′ e = nothing-le
 no-open (Message'.GotoAbsolutePositions p b a a′ v w e′ u) t s n′ e = nothing-left s n′ e
 no-open (Message'.PresetEncoders p b l r) t s n′ e = nothing-left s n′ e
 no-open Message'.OutputFeedback t s n′ e = absurd (miss others 37 tt t)
+no-open (Message'.CombinedSetup p b) t s n′ e = nothing-left s n′ e
+no-open (Message'.ModeDatasets p x) t s n′ e = absurd (miss others 39 tt t)
+no-open (Message'.PortValueCombined p w) t s n′ e = absurd (miss others 40 tt t)
+no-open (Message'.InputFormatCombined p k w) t s n′ e = nothing-left s n′ e
 
 enum-told : tie.Need-enum-told
 enum-told c = search needs
@@ -77,6 +81,12 @@ enum-told-3 c = search needs
 
 enum-told-4 : tie.Need-enum-told-4
 enum-told-4 c = search needs
+
+enum-told-5 : tie.Need-enum-told-5
+enum-told-5 c = search needs
+
+enum-told-6 : tie.Need-enum-told-6
+enum-told-6 c = search needs
 
 returns : tie.Need-returns
 unfolding layout
@@ -95,9 +105,17 @@ unfolding layout
 returns-4 c = λ s e. ap (openOfMessage s) (c .enum-told4 .given .1)
 
 returns-5 : tie.Need-returns-5
-returns-5 c = λ s e. no-open (c .before .args .m) (c .match .keys5) s (c .before .args .size) e
+unfolding layout
+returns-5 c = λ s e. ap (openOfMessage s) (c .enum-told5 .given .1)
+
+returns-6 : tie.Need-returns-6
+unfolding layout
+returns-6 c = λ s e. ap (openOfMessage s) (c .enum-told6 .given .1)
+
+returns-7 : tie.Need-returns-7
+returns-7 c = λ s e. no-open (c .before .args .m) (c .match .keys7) s (c .before .args .size) e
 
 pub open-start-spec : {M : Type 1} → statement M
 open-start-spec =
     tie.close
-    (tie.spec enum-told enum-told-2 enum-told-3 enum-told-4 returns returns-2 returns-3 returns-4 returns-5)
+    (tie.spec enum-told enum-told-2 enum-told-3 enum-told-4 enum-told-5 enum-told-6 returns returns-2 returns-3 returns-4 returns-5 returns-6 returns-7)

@@ -38,6 +38,9 @@ mode-information-request-requires c κs = search needs
 input-format-setup-requires : tie.Need-input-format-setup-requires
 input-format-setup-requires c κs = search needs
 
+combined-format-setup-requires : tie.Need-combined-format-setup-requires
+combined-format-setup-requires c κs = search needs
+
 virtual-port-setup-requires : tie.Need-virtual-port-setup-requires
 virtual-port-setup-requires c κs = search needs
 
@@ -97,17 +100,21 @@ returns-9 c =
 
 returns-10 : tie.Need-returns-10
 unfolding types
-returns-10 c = c .virtual-port-setup .ensures ∙ sym (typed Down _ 97 (c .before .match .keys10))
+returns-10 c = c .combined-format-setup .ensures ∙ sym (typed Down _ 66 (c .before .match .keys10))
 
 returns-11 : tie.Need-returns-11
 unfolding types
-returns-11 c = c .port-output-command .ensures ∙ sym (typed Down _ 129 (c .before .match .keys11))
+returns-11 c = c .virtual-port-setup .ensures ∙ sym (typed Down _ 97 (c .before .match .keys11))
 
 returns-12 : tie.Need-returns-12
+unfolding types
+returns-12 c = c .port-output-command .ensures ∙ sym (typed Down _ 129 (c .before .match .keys12))
+
+returns-13 : tie.Need-returns-13
 unfolding decodeWay types
-returns-12 c =
+returns-13 c =
     let r = c .before .match .rest in
-    simp (c .refuse .ensures, ne-eqb _ _ (r .0 .0 .0 .0 .0 .0 .0 .0 .0 .0 .1), ne-eqb _ _ (r .0 .0 .0 .0 .0 .0 .0 .0 .0 .1), ne-eqb _ _ (r .0 .0 .0 .0 .0 .0 .0 .0 .1), ne-eqb _ _ (r .0 .0 .0 .0 .0 .0 .0 .1), ne-eqb _ _ (r .0 .0 .0 .0 .0 .0 .1), ne-eqb _ _ (r .0 .0 .0 .0 .0 .1), ne-eqb _ _ (r .0 .0 .0 .0 .1), ne-eqb _ _ (r .0 .0 .0 .1), ne-eqb _ _ (r .0 .0 .1), ne-eqb _ _ (r .0 .1), ne-eqb _ _ (r .1))
+    simp (c .refuse .ensures, ne-eqb _ _ (r .0 .0 .0 .0 .0 .0 .0 .0 .0 .0 .0 .1), ne-eqb _ _ (r .0 .0 .0 .0 .0 .0 .0 .0 .0 .0 .1), ne-eqb _ _ (r .0 .0 .0 .0 .0 .0 .0 .0 .0 .1), ne-eqb _ _ (r .0 .0 .0 .0 .0 .0 .0 .0 .1), ne-eqb _ _ (r .0 .0 .0 .0 .0 .0 .0 .1), ne-eqb _ _ (r .0 .0 .0 .0 .0 .0 .1), ne-eqb _ _ (r .0 .0 .0 .0 .0 .1), ne-eqb _ _ (r .0 .0 .0 .0 .1), ne-eqb _ _ (r .0 .0 .0 .1), ne-eqb _ _ (r .0 .0 .1), ne-eqb _ _ (r .0 .1), ne-eqb _ _ (r .1))
 
 pub read-down-spec : {M : Type 1} → statement M
 read-down-spec =
@@ -123,6 +130,7 @@ read-down-spec =
     port-information-request-requires
     mode-information-request-requires
     input-format-setup-requires
+    combined-format-setup-requires
     virtual-port-setup-requires
     port-output-command-requires
     refuse-requires
@@ -137,4 +145,5 @@ read-down-spec =
     returns-9
     returns-10
     returns-11
-    returns-12)
+    returns-12
+    returns-13)

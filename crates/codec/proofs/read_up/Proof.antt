@@ -1,9 +1,8 @@
 use borrow.Author.Tests.{ne-eqb}
-use mathlib.Core.Path.{_≡_, sym, _∙_}
+use mathlib.Core.Path.{sym, _∙_}
 use Rattle.protocol.specs.declared.Way.the-variants.{Up}
-use Rattle.protocol.specs.Types.{types, hubProperties}
-use Rattle.protocol.specs.Answer.{answerOf}
-use Rattle.protocol.specs.Decode.{decodeType, decodeWay}
+use Rattle.protocol.specs.Types.{types}
+use Rattle.protocol.specs.Decode.{decodeWay}
 use Rattle.protocol.proofs.Selection.{typed, long-enough}
 use borrow.Author.Needs.{needs}
 use Rattle.codec.proofs.read_up.Statement.{statement}
@@ -39,8 +38,14 @@ port-mode-information-requires c κs = search needs
 port-value-requires : tie.Need-port-value-requires
 port-value-requires c κs = search needs
 
+port-value-combined-requires : tie.Need-port-value-combined-requires
+port-value-combined-requires c κs = search needs
+
 input-format-requires : tie.Need-input-format-requires
 input-format-requires c κs = search needs
+
+input-format-combined-requires : tie.Need-input-format-combined-requires
+input-format-combined-requires c κs = search needs
 
 output-feedback-requires : tie.Need-output-feedback-requires
 output-feedback-requires c κs = search needs
@@ -50,10 +55,7 @@ refuse-requires c κs = search needs
 
 returns : tie.Need-returns
 unfolding types
-returns c =
-    let s = c .before .before .before .before .args .s .now in
-    let up : answerOf (c .hub-properties .result) ≡ decodeType (hubProperties Up) s = c .hub-properties .ensures in
-    up ∙ sym (typed Up s 1 (c .before .match .keys1))
+returns c = c .hub-properties .ensures ∙ sym (typed Up _ 1 (c .before .match .keys1))
 
 returns-2 : tie.Need-returns-2
 unfolding types
@@ -97,19 +99,31 @@ returns-10 : tie.Need-returns-10
 unfolding types
 returns-10 c =
     let c1 = c .before .before .before .before in
-    c .input-format .ensures ∙ sym (typed Up _ 71 (c .before .match .keys10) ∙ long-enough _ _ (c1 .pre))
+    c .port-value-combined .ensures ∙ sym (typed Up _ 70 (c .before .match .keys10) ∙ long-enough _ _ (c1 .pre))
 
 returns-11 : tie.Need-returns-11
 unfolding types
 returns-11 c =
     let c1 = c .before .before .before .before in
-    c .output-feedback .ensures ∙ sym (typed Up _ 130 (c .before .match .keys11) ∙ long-enough _ _ (c1 .pre))
+    c .input-format .ensures ∙ sym (typed Up _ 71 (c .before .match .keys11) ∙ long-enough _ _ (c1 .pre))
 
 returns-12 : tie.Need-returns-12
-unfolding decodeWay types
+unfolding types
 returns-12 c =
+    let c1 = c .before .before .before .before in
+    c .input-format-combined .ensures ∙ sym (typed Up _ 72 (c .before .match .keys12) ∙ long-enough _ _ (c1 .pre))
+
+returns-13 : tie.Need-returns-13
+unfolding types
+returns-13 c =
+    let c1 = c .before .before .before .before in
+    c .output-feedback .ensures ∙ sym (typed Up _ 130 (c .before .match .keys13) ∙ long-enough _ _ (c1 .pre))
+
+returns-14 : tie.Need-returns-14
+unfolding decodeWay types
+returns-14 c =
     let r = c .before .match .rest in
-    simp (c .refuse .ensures, ne-eqb _ _ (r .0 .0 .0 .0 .0 .0 .0 .0 .0 .0 .1), ne-eqb _ _ (r .0 .0 .0 .0 .0 .0 .0 .0 .0 .1), ne-eqb _ _ (r .0 .0 .0 .0 .0 .0 .0 .0 .1), ne-eqb _ _ (r .0 .0 .0 .0 .0 .0 .0 .1), ne-eqb _ _ (r .0 .0 .0 .0 .0 .0 .1), ne-eqb _ _ (r .0 .0 .0 .0 .0 .1), ne-eqb _ _ (r .0 .0 .0 .0 .1), ne-eqb _ _ (r .0 .0 .0 .1), ne-eqb _ _ (r .0 .0 .1), ne-eqb _ _ (r .0 .1), ne-eqb _ _ (r .1))
+    simp (c .refuse .ensures, ne-eqb _ _ (r .0 .0 .0 .0 .0 .0 .0 .0 .0 .0 .0 .0 .1), ne-eqb _ _ (r .0 .0 .0 .0 .0 .0 .0 .0 .0 .0 .0 .1), ne-eqb _ _ (r .0 .0 .0 .0 .0 .0 .0 .0 .0 .0 .1), ne-eqb _ _ (r .0 .0 .0 .0 .0 .0 .0 .0 .0 .1), ne-eqb _ _ (r .0 .0 .0 .0 .0 .0 .0 .0 .1), ne-eqb _ _ (r .0 .0 .0 .0 .0 .0 .0 .1), ne-eqb _ _ (r .0 .0 .0 .0 .0 .0 .1), ne-eqb _ _ (r .0 .0 .0 .0 .0 .1), ne-eqb _ _ (r .0 .0 .0 .0 .1), ne-eqb _ _ (r .0 .0 .0 .1), ne-eqb _ _ (r .0 .0 .1), ne-eqb _ _ (r .0 .1), ne-eqb _ _ (r .1))
 
 pub read-up-spec : {M : Type 1} → statement M
 read-up-spec =
@@ -125,7 +139,9 @@ read-up-spec =
     port-information-requires
     port-mode-information-requires
     port-value-requires
+    port-value-combined-requires
     input-format-requires
+    input-format-combined-requires
     output-feedback-requires
     refuse-requires
     returns
@@ -139,4 +155,6 @@ read-up-spec =
     returns-9
     returns-10
     returns-11
-    returns-12)
+    returns-12
+    returns-13
+    returns-14)
