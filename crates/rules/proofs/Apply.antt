@@ -79,11 +79,11 @@ pub fit-wired : (p : ℕ) (y : Wiring) (f : Facts) → Fit p f → Fit p (wired 
 fit-wired p y f k = record { small = k .small; device = k .device; settings = k .settings }
 
 pub loose-members : (t : Table) (a b : ℕ) (y : Wiring) → Loose t → Loose (change b (wired y) (change a (wired y) t))
-loose-members t a b y l = loose-change b (wired y) (change a (wired y) t) (loose-change a (wired y) t l (fit-wired a y)) (fit-wired b y)
+loose-members t a b y l = loose-change b (wired y) (change a (wired y) t) (loose-change a (wired y) t l (λ f is. fit-wired a y f)) (λ f is. fit-wired b y f)
 
 -- ---- the changes
 
-pub sound-keep : (p : ℕ) (g : Facts → Facts) (t : Table) → Sound t → ((f : Facts) → g f .wiring ≡ f .wiring) → ((f : Facts) → Fit p f → Fit p (g f)) → Sound (change p g t)
+pub sound-keep : (p : ℕ) (g : Facts → Facts) (t : Table) → Sound t → ((f : Facts) → g f .wiring ≡ f .wiring) → ((f : Facts) → viewOfTable t p ≡ some f → Fit p f → Fit p (g f)) → Sound (change p g t)
 sound-keep p g t s same fits = record {
   loose = loose-change p g t (s .loose) fits;
   pairs = pairs-ext (wiredIn t) (wiredIn (change p g t)) (λ q. sym (wired-keep p g t same q)) (s .pairs);

@@ -2,22 +2,25 @@
 use Prim.Native.Nat.{ℕ, zero, suc, _+_, _*_, _/_, _%_, _≤_, _<_}
 use native.Mathlib.Nat.{zero-add, add-zero, add-suc, suc-add}
 use native.Mathlib.Omega.{arith}
-use mathlib.Core.Path.{_≡_, refl, _∙_, ap}
-use mathlib.Core.Bool.{true, false}
-use mathlib.Core.List.{List, _∷_, _++_}
+use mathlib.Core.Path.{_≡_, refl, sym, _∙_, ap}
+use mathlib.Core.Bool.{Bool, true, false, cond, not, _&&_}
+use mathlib.Core.List.{List, [], _∷_, _++_, append-nil}
 use mathlib.Core.Logic.{⊎-elim}
 use mathlib.Core.Option.{Option, none, some}
-use borrow.Author.Tests.{ltb-true, ltb-false, leb-true, eqb-true, eqb-false}
+use borrow.Author.Tests.{ltb-true, ltb-false, leb-true, eqb-true, eqb-false, ne-eqb}
 use lib.Dec.{eqb, leb, ltb}
-use lib.ListN.{length, getD, take}
-use Rattle.protocol.specs.Form.{upFrom, mostDatasets, lastKind}
+use lib.ListN.{length, getD, take, drop, replicate, length-append, length-replicate}
+use lib.Seq.{take-at, take-take, length-take-le, getD-append-add, drop-append-add}
+use Rattle.protocol.specs.Rule.{between}
+use Rattle.protocol.specs.Form.{upFrom, lastMode, lastNotify, mostDatasets, lastKind, mostEntries, modeDatasetList, wrongByte}
 use Rattle.protocol.proofs.Tests.{which, and-left, and-right}
 use Rattle.rules.specs.Layout.{modeCount, stride}
-use Rattle.rules.specs.Facts.{Setup, Format, Wiring, Unjoined, Joined, Virtual, Settings, Facts}
+use Rattle.rules.specs.Facts.{Setup, Format, Asking, askedSingle, askedCombined, Answering, answeredSingle, answeredCombined, Wiring, Unjoined, Joined, Virtual, Settings, Facts}
+use Rattle.rules.specs.Pointers.{pointersFit}
 use Rattle.rules.specs.Table.{Record}
-use Rattle.rules.specs.WellFormed.{formatFits, formatsFit, settingsFit, factsFit}
-use Rattle.rules.specs.Cells.{formatCell, setupCells, wiringCell, firstPartner, secondPartner, formatCells, modes, recordCells, placeCells, formatBytes, formatAt, wiringAt, recordAt, placeAt}
-use Rattle.rules.proofs.SettingsFit.{NoHigh, five-passed, listed}
+use Rattle.rules.specs.WellFormed.{setupFits, formatFits, formatsFit, allBytes, isNone, listFits, keptFits, askedFits, answeredFits, settingsFit, factsFit}
+use Rattle.rules.specs.Cells.{formatCell, askedCells, answeredCells, takenBy, listCells, wiringCell, firstPartner, secondPartner, formatCells, modes, recordCells, placeCells, formatBytes, formatAt, askedAt, answeredAt, wiringAt, cellAt, askedFrom, answeredFrom, entriesFrom, listFrom, recordAt, placeAt}
+use Rattle.rules.proofs.SettingsFit.{NoHigh, five-passed, InLists, listed}
 
 -- ---- formats
 
@@ -76,48 +79,171 @@ wired-not-free Unjoined = refl
 wired-not-free (Joined v) = refl
 wired-not-free (Virtual a b) = refl
 
--- what cells stand for, the setups' among them
-setups-back : (w port device a b state experiment : ℕ) (asked answered : Option Setup) (fs : List ℕ) → recordAt (w ∷ port ∷ device ∷ a ∷ b ∷ state ∷ (setupCells asked ++ (experiment ∷ (setupCells answered ++ fs)))) ≡ record {
+-- ---- what was asked and what was answered
+
+-- three cells
+asked-three : (x : Option Asking) → askedCells x ≡ cellAt (askedCells x) 0 ∷ cellAt (askedCells x) 1 ∷ cellAt (askedCells x) 2 ∷ []
+asked-three none = refl
+asked-three (some (askedSingle s)) = refl
+asked-three (some askedCombined) = refl
+
+answered-three : (x : Option Answering) → answeredCells x ≡ cellAt (answeredCells x) 0 ∷ cellAt (answeredCells x) 1 ∷ cellAt (answeredCells x) 2 ∷ []
+answered-three none = refl
+answered-three (some (answeredSingle s)) = refl
+answered-three (some (answeredCombined p list)) = refl
+
+-- a mode is below the number that stands in place of one
+mode-low : (s : Setup) → setupFits s ≡ true → eqb (s .mode) modeCount ≡ false
+mode-low s e =
+    let front = and-left (leb (s .mode) lastMode && ltb (s .delta) 4294967296) (leb (s .notify) lastNotify) e in
+    let low : s .mode ≤ lastMode = leb-true (s .mode) lastMode (and-left (leb (s .mode) lastMode) (ltb (s .delta) 4294967296) front) in
+    ne-eqb (s .mode) modeCount (λ k. omega arith)
+
+asked-back : (x : Option Asking) (list : Option (List ℕ)) → askedFits x list ≡ true → askedFrom (askedCells x) 0 ≡ x
+asked-back none list e = refl
+asked-back (some (askedSingle s)) list e = ap (λ (b : Bool). some (cond b askedCombined (askedSingle s))) (mode-low s e)
+asked-back (some askedCombined) list e = refl
+
+answered-back : (x : Option Answering) (list : Option (List ℕ)) (taken : List ℕ) → answeredFits x list ≡ true → ((l : List ℕ) → takenBy x ≡ some l → taken ≡ l) → answeredFrom (answeredCells x) 0 taken ≡ x
+answered-back none list taken e k = refl
+answered-back (some (answeredSingle s)) list taken e k = ap (λ (b : Bool). some (cond b (answeredCombined (s .delta) taken) (answeredSingle s))) (mode-low s e)
+answered-back (some (answeredCombined p l)) list taken e k = ap (λ (x : List ℕ). some (answeredCombined p x)) (k l refl)
+
+-- ---- lists
+
+pub list-length : (x : Option (List ℕ)) → length (listCells x) ≡ suc mostEntries
+unfolding listCells
+list-length none = refl
+list-length (some list) =
+    ap suc (length-take-le mostEntries (list ++ replicate mostEntries 0) (rw (length-append, length-replicate) (omega arith)))
+
+-- behind other cells
+entries-behind : (xs c : List ℕ) (at : ℕ) → length xs ≡ at → (k : ℕ) → entriesFrom (xs ++ c) (at + k) ≡ entriesFrom c k
+entries-behind xs c at e k =
+    let cell : getD (xs ++ c) (at + k) 0 ≡ getD c k 0 = ap (λ (n : ℕ). getD (xs ++ c) (n + k) 0) (sym e) ∙ getD-append-add xs c k 0 in
+    let past : suc (at + k) ≡ length xs + suc k = omega arith in
+    let rest : drop (suc (at + k)) (xs ++ c) ≡ drop (suc k) c = ap (λ (n : ℕ). drop n (xs ++ c)) past ∙ drop-append-add xs c (suc k) in
+    λ i. take (cell i) (take mostEntries (rest i))
+
+list-behind : (xs c : List ℕ) (at : ℕ) → length xs ≡ at → (k : ℕ) → listFrom (xs ++ c) (at + k) ≡ listFrom c k
+list-behind xs c at e k =
+    let cell : getD (xs ++ c) (at + k) 0 ≡ getD c k 0 = ap (λ (n : ℕ). getD (xs ++ c) (n + k) 0) (sym e) ∙ getD-append-add xs c k 0 in
+    λ i. cond (eqb (cell i) 0) none (some (entries-behind xs c at e k i))
+
+-- at the front of cells
+entries-front : (list c : List ℕ) → length list ≤ mostEntries → entriesFrom (listCells (some list) ++ c) 0 ≡ list
+unfolding listCells
+entries-front list c few =
+    let zeros : List ℕ = replicate mostEntries 0 in
+    ap (take (length list)) (take-at (take mostEntries (list ++ zeros)) c mostEntries (length-take-le mostEntries (list ++ zeros) (rw (length-append, length-replicate) (omega arith))))
+    ∙ take-take (length list) mostEntries (list ++ zeros) few
+    ∙ take-at list zeros (length list) refl
+
+few-entries : (list : List ℕ) → listFits list ≡ true → (1 ≤ length list) × (length list ≤ mostEntries)
+unfolding listFits
+few-entries list e =
+    let size = and-left (leb 1 (length list)) (leb (length list) mostEntries) in
+    let both = and-left (between 1 mostEntries (length list)) (allBytes list) (and-left (between 1 mostEntries (length list) && allBytes list) (isNone (wrongByte modeDatasetList list)) e) in
+    (leb-true 1 (length list) (and-left (leb 1 (length list)) (leb (length list) mostEntries) both), leb-true (length list) mostEntries (and-right (leb 1 (length list)) (leb (length list) mostEntries) both))
+
+list-front : (x : Option (List ℕ)) (c : List ℕ) → keptFits x ≡ true → listFrom (listCells x ++ c) 0 ≡ x
+unfolding listCells
+list-front none c e = refl
+list-front (some list) c e =
+    let few = few-entries list e in
+    rw (ne-eqb (length list) 0 (λ k. omega (arith, few .0))) (ap some (entries-front list c (few .1)))
+
+-- ---- a record, and a place
+
+-- what cells stand for, by those after what was answered
+cells-back : (w port device a b state x0 x1 x2 experiment y0 y1 y2 : ℕ) (rest : List ℕ) → recordAt (w ∷ port ∷ device ∷ a ∷ b ∷ state ∷ x0 ∷ x1 ∷ x2 ∷ experiment ∷ y0 ∷ y1 ∷ y2 ∷ rest) ≡ record {
   port = port;
   facts = record {
     device = device;
     wiring = wiringAt w a b;
-    settings = record { formats = λ mode. formatAt (getD (take modeCount fs) mode 0); answered = answered; asked = asked; state = state; experiment = experiment };
+    settings = record {
+      formats = λ mode. formatAt (getD (take modeCount rest) mode 0);
+      answered = answeredAt y0 y1 y2 (entriesFrom rest 33);
+      asked = askedAt x0 x1 x2;
+      list = listFrom rest 16;
+      state = state;
+      experiment = experiment;
+    };
   };
 }
 unfolding recordAt
-setups-back w port device a b state experiment none none fs = refl
-setups-back w port device a b state experiment none (some s) fs = refl
-setups-back w port device a b state experiment (some s) none fs = refl
-setups-back w port device a b state experiment (some s) (some t) fs = refl
+cells-back w port device a b state x0 x1 x2 experiment y0 y1 y2 rest = refl
 
-setups-length : (asked : Option Setup) (experiment : ℕ) (answered : Option Setup) (fs : List ℕ) → length (setupCells asked ++ (experiment ∷ (setupCells answered ++ fs))) ≡ 7 + length fs
-setups-length none experiment none fs = omega arith
-setups-length none experiment (some s) fs = omega arith
-setups-length (some s) experiment none fs = omega arith
-setups-length (some s) experiment (some t) fs = omega arith
+-- the cells after what was answered
+abbrev later : Settings → List ℕ
+later s = formatCells (s .formats) modes ++ (listCells (s .list) ++ listCells (takenBy (s .answered)))
 
--- ---- a record, and a place
+module _ (s : Settings) (k : InLists s) where
+  kept-back : listFrom (later s) 16 ≡ s .list
+  kept-back = list-behind (formatCells (s .formats) modes) (listCells (s .list) ++ listCells (takenBy (s .answered))) 16 refl 0 ∙ list-front (s .list) (listCells (takenBy (s .answered))) (k .list)
+
+  taken-back : (l : List ℕ) → takenBy (s .answered) ≡ some l → entriesFrom (later s) 33 ≡ l
+  taken-back l e =
+      entries-behind (formatCells (s .formats) modes) (listCells (s .list) ++ listCells (takenBy (s .answered))) 16 refl 17
+      ∙ entries-behind (listCells (s .list)) (listCells (takenBy (s .answered))) 17 (list-length (s .list)) 0
+      ∙ ap (λ (x : Option (List ℕ)). entriesFrom (listCells x) 0) e
+      ∙ ap (λ (c : List ℕ). entriesFrom c 0) (sym (append-nil (listCells (some l))))
+      ∙ entries-front l [] (few-entries l (taken-fits (s .answered) (s .list) (k .answered) l e) .1)
+    where
+      taken-fits : (x : Option Answering) (list : Option (List ℕ)) → answeredFits x list ≡ true → (l : List ℕ) → takenBy x ≡ some l → listFits l ≡ true
+      taken-fits none list e l t = let z : _≡_ {A = ℕ} 0 1 = cc in absurd (omega arith)
+      taken-fits (some (answeredSingle t)) list e l j = let z : _≡_ {A = ℕ} 0 1 = cc in absurd (omega arith)
+      taken-fits (some (answeredCombined p taken)) list e l t =
+          let is : taken ≡ l = cc in
+          rw (sym is) (and-right (not (isNone list)) (listFits taken) (and-left (not (isNone list) && listFits taken) (pointersFit p taken) e))
+
+  settings-formats : NoHigh (s .formats) → (m : ℕ) → formatAt (getD (take modeCount (later s)) m 0) ≡ s .formats m
+  settings-formats high m =
+      ap (λ (c : List ℕ). formatAt (getD c m 0)) (take-at (formatCells (s .formats) modes) (listCells (s .list) ++ listCells (takenBy (s .answered))) modeCount refl)
+      ∙ formats-back (s .formats) high (k .formats) m
+
+-- the three cells of each, one by one
+abbrev spread : ℕ → ℕ → ℕ → ℕ → ℕ → ℕ → List ℕ → ℕ → List ℕ → List ℕ → List ℕ
+spread w port device a b state asked experiment answered rest = w ∷ port ∷ device ∷ a ∷ b ∷ state ∷ (asked ++ (experiment ∷ (answered ++ rest)))
 
 pub record-back : (r : Record) → NoHigh (r .facts .settings .formats) → factsFit (r .facts) ≡ true → recordAt (recordCells r) ≡ r
 unfolding recordCells
 record-back r high fits =
     let f : Facts = r .facts in
     let s : Settings = f .settings in
-    let formats = listed s (and-right (ltb (f .device) 65536) (settingsFit s) fits) .formats in
-    setups-back (wiringCell (f .wiring)) (r .port) (f .device) (firstPartner (f .wiring)) (secondPartner (f .wiring)) (s .state) (s .experiment) (s .asked) (s .answered) (formatCells (s .formats) modes)
+    let k = listed s (and-right (ltb (f .device) 65536) (settingsFit s) fits) in
+    let x : List ℕ = askedCells (s .asked) in
+    let y : List ℕ = answeredCells (s .answered) in
+    let front : List ℕ → List ℕ → List ℕ = λ x y. spread (wiringCell (f .wiring)) (r .port) (f .device) (firstPartner (f .wiring)) (secondPartner (f .wiring)) (s .state) x (s .experiment) y (later s) in
+    (λ i. recordAt (front (asked-three (s .asked) i) (answered-three (s .answered) i)))
+    ∙ cells-back (wiringCell (f .wiring)) (r .port) (f .device) (firstPartner (f .wiring)) (secondPartner (f .wiring)) (s .state) (cellAt x 0) (cellAt x 1) (cellAt x 2) (s .experiment) (cellAt y 0) (cellAt y 1) (cellAt y 2) (later s)
     ∙ λ i. record {
       port = r .port;
       facts = record {
         device = f .device;
         wiring = wiring-back (f .wiring) i;
-        settings = record { formats = λ mode. formats-back (s .formats) high formats mode i; answered = s .answered; asked = s .asked; state = s .state; experiment = s .experiment };
+        settings = record {
+          formats = λ mode. settings-formats s k high mode i;
+          answered = answered-back (s .answered) (s .list) (entriesFrom (later s) 33) (k .answered) (taken-back s k) i;
+          asked = asked-back (s .asked) (s .list) (k .asked) i;
+          list = kept-back s k i;
+          state = s .state;
+          experiment = s .experiment;
+        };
       };
     }
 
 record-length : (r : Record) → length (recordCells r) ≡ stride
 unfolding recordCells
-record-length r = rw setups-length
+record-length r =
+    let s : Settings = r .facts .settings in
+    (λ i. suc (suc (suc (suc (suc (suc (length (asked-three (s .asked) i ++ (s .experiment ∷ (answered-three (s .answered) i ++ later s))))))))))
+    ∙ ap (λ (n : ℕ). suc (suc (suc (suc (suc (suc (suc (suc (suc (suc (suc (suc (suc n))))))))))))) (later-length s)
+  where
+    later-length : (s : Settings) → length (later s) ≡ 50
+    later-length s =
+        length-append (formatCells (s .formats) modes) (listCells (s .list) ++ listCells (takenBy (s .answered)))
+        ∙ ap (λ (n : ℕ). 16 + n) (length-append (listCells (s .list)) (listCells (takenBy (s .answered))) ∙ (λ i. list-length (s .list) i + list-length (takenBy (s .answered)) i))
 
 -- no record has the first cell of a free place
 pub record-place : (r : Record) → NoHigh (r .facts .settings .formats) → factsFit (r .facts) ≡ true → placeAt (recordCells r) ≡ some r

@@ -10,27 +10,27 @@ use lib.Dec.{eqb}
 use lib.ListN.{length, getD, take, drop, replicate, length-take, length-append, replicate-append-replicate, List·getD-eq-default}
 use Rattle.protocol.proofs.Tests.{and-left, and-right}
 use Rattle.rules.specs.Layout.{modeCount, places, stride, tableSize, formatsIndex}
-use Rattle.rules.specs.Facts.{View}
+use Rattle.rules.specs.Facts.{View, sameList}
 use Rattle.rules.specs.Table.{Record, Table, viewOfTable}
 use Rattle.rules.specs.WellFormed.{placesFit, wellFormed}
-use Rattle.rules.specs.Cells.{placeCells, cellsOf, formatAt, recordAt, placesAt, tableAt, sameCells, sound, emptyCells}
+use Rattle.rules.specs.Cells.{placeCells, cellsOf, formatAt, recordAt, placesAt, tableAt, sound, emptyCells}
 use Rattle.rules.proofs.SettingsFit.{NoHigh}
 use Rattle.rules.proofs.CellsRecord.{place-length}
 use Rattle.rules.proofs.CellsTable.{NoHighFormats, table-back}
 
 -- ---- the comparison of cells
 
-pub same-refl : (cs : List ℕ) → sameCells cs cs ≡ true
+pub same-refl : (cs : List ℕ) → sameList cs cs ≡ true
 same-refl [] = refl
 same-refl (c ∷ cs) = rw (eq-eqb c c refl) (same-refl cs)
 
-pub same-equal : (cs ds : List ℕ) → sameCells cs ds ≡ true → cs ≡ ds
+pub same-equal : (cs ds : List ℕ) → sameList cs ds ≡ true → cs ≡ ds
 same-equal [] [] e = refl
 same-equal [] (d ∷ ds) e = let z : _≡_ {A = ℕ} 0 1 = cc in absurd (omega arith)
 same-equal (c ∷ cs) [] e = let z : _≡_ {A = ℕ} 0 1 = cc in absurd (omega arith)
 same-equal (c ∷ cs) (d ∷ ds) e =
-    let here : c ≡ d = eqb-true c d (and-left (eqb c d) (sameCells cs ds) e) in
-    let there : cs ≡ ds = same-equal cs ds (and-right (eqb c d) (sameCells cs ds) e) in
+    let here : c ≡ d = eqb-true c d (and-left (eqb c d) (sameList cs ds) e) in
+    let there : cs ≡ ds = same-equal cs ds (and-right (eqb c d) (sameList cs ds) e) in
     λ i. here i ∷ there i
 
 -- ---- the cells of a well formed table are sound
@@ -62,7 +62,7 @@ places-high (suc n) cells =
 pub sound-is : (cells : List ℕ) → sound cells ≡ true → (cells ≡ cellsOf (tableAt cells)) × (wellFormed (tableAt cells) ≡ true) × (length (tableAt cells) ≡ places) × NoHighFormats (tableAt cells)
 unfolding sound tableAt
 sound-is cells e =
-    let same : Bool = sameCells cells (cellsOf (tableAt cells)) in
+    let same : Bool = sameList cells (cellsOf (tableAt cells)) in
     let well : Bool = wellFormed (tableAt cells) in
     (same-equal cells (cellsOf (tableAt cells)) (and-left same well e), and-right same well e, places-length places cells, places-high places cells)
 

@@ -9,7 +9,7 @@ use lib.ListN.{replicate}
 use Rattle.protocol.specs.declared.Way.{Way}
 use Rattle.rules.specs.Layout.{portCount, places}
 use Rattle.rules.specs.Answer.{Answer, refused, accepted}
-use Rattle.rules.specs.Effect.{Effect}
+use Rattle.rules.specs.Effect.{Event, event}
 use Rattle.rules.specs.Facts.{View, Ports}
 use Rattle.rules.specs.History.{History, sinceAttached, viewOfHistory, presentBelow, fullHistory, portsOfHistory}
 use Rattle.rules.specs.Table.{Table, viewOfTable, modesOfTable, portsOfTable, fullTable, apply}
@@ -79,17 +79,17 @@ answers : (cells : List ℕ) (h : History) → Holds cells h → (e : Entry) →
 answers cells h k e = ap (λ (c : List ℕ). offerByCells c e) (k .cells-are) ∙ judges (k .table) (k .good) e ∙ same-verdict (k .table) h (k .good) (k .follows) e
 
 -- an answer changes the cells and the history alike
-next : (cells : List ℕ) (h : History) → Holds cells h → (e : Entry) → EntryFits e → (v : Answer Effect) → judgeEntry (portsOfHistory h) e ≡ v → Holds (appliedTo cells v) (extendHistory h v)
+next : (cells : List ℕ) (h : History) → Holds cells h → (e : Entry) → EntryFits e → (v : Answer Event) → judgeEntry (portsOfHistory h) e ≡ v → Holds (appliedTo cells v) (extendHistory h v)
 next cells h k e b (refused n place) j = k
-next cells h k e b (accepted x) j =
+next cells h k e b (accepted (event x o)) j =
     let t : Table = k .table in
-    let said : judgeEntry (portsOfTable t) e ≡ accepted x = same-verdict t h (k .good) (k .follows) e ∙ j in
-    let a = was-accepted (portsOfTable t) e x said in
+    let said : judgeEntry (portsOfTable t) e ≡ accepted (event x o) = same-verdict t h (k .good) (k .follows) e ∙ j in
+    let a = was-accepted (portsOfTable t) e x o said in
     record {
-      table = apply x t;
-      cells-are = ap (λ (c : List ℕ). cellsOf (apply x (tableAt c))) (k .cells-are) ∙ ap (λ (u : Table). cellsOf (apply x u)) (back t (k .good));
-      good = kept t (k .good) e b x said;
-      follows = follows-step x t h (a .opens) (k .good) (k .follows) (a .good);
+      table = apply x o t;
+      cells-are = ap (λ (c : List ℕ). cellsOf (apply x o (tableAt c))) (k .cells-are) ∙ ap (λ (u : Table). cellsOf (apply x o u)) (back t (k .good));
+      good = kept t (k .good) e b x o said;
+      follows = follows-step x t h o (k .good) (k .follows) (a .good);
     }
 
 through : (cells : List ℕ) (past rest : List Entry) → EntriesFit rest → Holds cells (acceptedHistory past) → AgreeThrough cells past rest

@@ -9,7 +9,7 @@ use Rattle.rules.specs.Effect.{effectOf}
 use Rattle.rules.specs.ValueLookup.{valueLookup}
 use Rattle.rules.specs.Judge.{judge}
 use Rattle.rules.specs.Datasets.{allDatasets}
-use Rattle.rules.specs.Dataset.{datasetOf, datasetAnswer}
+use Rattle.rules.specs.Dataset.{valueAt, datasetOf, datasetAnswer}
 use Rattle.rules.specs.Learn.{learn}
 use Rattle.rules.specs.Latest.{settingsOf}
 use Rattle.rules.specs.WellFormed.{wellFormed}
@@ -18,5 +18,5 @@ use Rattle.rules.specs.Offer.{judgeEntry, datasetMessage}
 use Rattle.rules.specs.Examples.{ExamplesHold}
 
 pub examples-hold : ExamplesHold
-unfolding decode decodeWay decodeType decodeForm layout informationType longestModeText startByte signedSpeed degrees endState feedback littleEndian bigEndian ofBits types hubAttachedIo portInformation portModeInformation hubActions downAction virtualPortSetup portOutputCommand effectOf valueLookup judge datasetOf allDatasets datasetAnswer settingsOf sinceAttached viewOfHistory modesOfHistory fullHistory judgeEntry datasetMessage learn wellFormed
+unfolding decode decodeWay decodeType decodeForm layout informationType longestModeText startByte signedSpeed degrees endState feedback littleEndian bigEndian ofBits types hubAttachedIo portInformation portModeInformation hubActions downAction virtualPortSetup portOutputCommand effectOf valueLookup judge valueAt datasetOf allDatasets datasetAnswer settingsOf sinceAttached viewOfHistory modesOfHistory fullHistory judgeEntry datasetMessage learn wellFormed
 examples-hold = (refl, (refl, refl, refl), (refl, refl, refl, refl), refl, refl, refl, refl, refl, refl, refl, refl, refl, refl, refl, refl, refl, refl, refl, refl, refl, refl, refl, refl, refl, refl, refl)

@@ -3,12 +3,13 @@
 use Prim.Native.Nat.{ℕ}
 use mathlib.Core.Path.{_≡_, refl, sym, _∙_, ap}
 use mathlib.Core.Bool.{Bool, true, false, cond}
+use mathlib.Core.List.{List}
 use mathlib.Core.Option.{Option, none, some}
 use mathlib.Core.Logic.{⊎-elim}
 use borrow.Author.Tests.{eqb-true}
 use lib.Dec.{eqb}
 use Rattle.protocol.proofs.Tests.{which}
-use Rattle.rules.specs.Effect.{Change}
+use Rattle.rules.specs.Effect.{Change, told}
 use Rattle.rules.specs.Facts.{Wiring, Unjoined, Joined, Virtual, Facts}
 use Rattle.rules.specs.History.{History, Attachment, plain, pair, Since, absent, since, addChange, unlessMember, sinceAttached, isPartner, deviceOf}
 use Rattle.rules.specs.Learn.{learn}
@@ -41,10 +42,10 @@ Follows t h = (q : ℕ) → mapFacts unwire (viewOfTable t q) ≡ factsSince (si
 -- ---- on the side of the history
 
 -- one port is told something
-pub facts-told : (b : Bool) (c : Change) (s : Since) → factsSince (cond b (addChange c s) s) ≡ cond b (mapFacts (onSettings (learn c)) (factsSince s)) (factsSince s)
-facts-told true c absent = refl
-facts-told true c (since a changes) = refl
-facts-told false c s = refl
+pub facts-told : (b : Bool) (c : Change) (opens : List ℕ) (s : Since) → factsSince (cond b (addChange (told c opens) s) s) ≡ cond b (mapFacts (onSettings (learn c opens)) (factsSince s)) (factsSince s)
+facts-told true c opens absent = refl
+facts-told true c opens (since a changes) = refl
+facts-told false c opens s = refl
 
 -- a member's detachment ends a virtual port, and no other
 pub not-ended : (p : ℕ) (s : Since) → isPartner p s ≡ false → unlessMember p s ≡ s

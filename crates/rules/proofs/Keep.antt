@@ -106,7 +106,7 @@ some-of-cond : (b : Bool) (x : Option Facts) (f : Facts) → cond b none x ≡ s
 some-of-cond true x f e = let z : _≡_ {A = ℕ} 0 1 = cc in absurd (omega arith)
 some-of-cond false x f e = (refl, e)
 
-pub loose-change : (p : ℕ) (g : Facts → Facts) (t : Table) → Loose t → ((f : Facts) → Fit p f → Fit p (g f)) → Loose (change p g t)
+pub loose-change : (p : ℕ) (g : Facts → Facts) (t : Table) → Loose t → ((f : Facts) → viewOfTable t p ≡ some f → Fit p f → Fit p (g f)) → Loose (change p g t)
 loose-change p g t l keeps = record {
   size = length-change p g t ∙ l .size;
   distinct = distinct-change p g t (l .distinct);
@@ -120,7 +120,7 @@ loose-change p g t l keeps = record {
         (λ (e : eqb p q ≡ true).
         let same : p ≡ q = eqb-true p q e in
         let at : Fit p (k .before) = rw same old in
-        rw (k .is, e) (rw same at (keeps (k .before) at)))
+        rw (k .is, e) (rw same at (keeps (k .before) (ap (viewOfTable t) same ∙ k .was) at)))
         (λ (e : eqb p q ≡ false). rw (k .is, e) old)
         (which (eqb p q))
 

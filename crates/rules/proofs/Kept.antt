@@ -10,9 +10,9 @@ use borrow.Author.Tests.{eqb-false, ltb-true}
 use lib.Dec.{eqb, ltb}
 use Rattle.protocol.proofs.Tests.{and-left, and-right}
 use Rattle.rules.specs.Layout.{portCount}
-use Rattle.rules.specs.Effect.{Change, Effect, Nothing, ToPort, Attach, AttachVirtual, Detach, Value, Disconnect, Connect, Empty, ToVirtual, Feedback}
+use Rattle.rules.specs.Effect.{Change, Effect, Nothing, ToPort, Attach, AttachVirtual, Detach, Value, Disconnect, Connect, Empty, ToVirtual, Feedback, CombinedValue}
 use Rattle.rules.specs.Facts.{Wiring, Unjoined, Joined, Virtual, isUnjoined, Facts, known}
-use Rattle.rules.specs.Judge.{presentUnjoined, pairTest, judge}
+use Rattle.rules.specs.Judge.{presentUnjoined, pairTest, changeRefusal, toldRefusal, judge}
 use Rattle.rules.specs.Learn.{learn}
 use Rattle.rules.specs.Ranges.{changeFits, effectFits}
 use Rattle.rules.specs.Table.{Table, fullTable, viewOfTable, portsOfTable, freed, wiredAs, dissolve, detachBy, bare, newRecord, onSettings, apply, remove, dissolveBy}
@@ -28,8 +28,8 @@ use Rattle.rules.proofs.Apply.{sound-keep, sound-attach, sound-remove, 
 fit-bare : (p d : ℕ) (w : Wiring) → ltb p portCount ≡ true → ltb d 65536 ≡ true → Fit p (bare d w)
 fit-bare p d w small e = record { small = ltb-true p portCount small; device = e; settings = bare-fits }
 
-fit-learn : (p : ℕ) (c : Change) → changeFits c ≡ true → (f : Facts) → Fit p f → Fit p (onSettings (learn c) f)
-fit-learn p c good f k = record { small = k .small; device = k .device; settings = learn-fits c good (f .settings) (k .settings) }
+fit-learn : (p : ℕ) (c : Change) (o : List ℕ) → changeFits c o ≡ true → (f : Facts) → changeRefusal c (f .settings) ≡ 0 → Fit p f → Fit p (onSettings (learn c o) f)
+fit-learn p c o good f ok k = record { small = k .small; device = k .device; settings = learn-fits c o good (f .settings) ok (k .settings) }
 
 -- ---- what an accepted message was judged by
 
@@ -106,10 +106,11 @@ detach-known t s p (some f) e k = sound-detach t s p (f .wiring) (ap wiring? e)
 
 -- ---- every message
 
-pub keeps : (e : Effect) (t : Table) (opens : List ℕ) → Sound t → effectFits e ≡ true → judge (portsOfTable t) e opens ≡ 0 → Sound (apply e t)
+pub keeps : (e : Effect) (t : Table) (opens : List ℕ) → Sound t → effectFits e opens ≡ true → judge (portsOfTable t) e opens ≡ 0 → Sound (apply e opens t)
 unfolding judge apply
 keeps Nothing t o s fits ok = s
-keeps (ToPort p c) t o s fits ok = sound-keep p (onSettings (learn c)) t s (λ g. refl) (fit-learn p c fits)
+keeps (ToPort p c) t o s fits ok =
+    sound-keep p (onSettings (learn c o)) t s (λ g. refl) (λ f is. fit-learn p c o fits f (sym (ap (toldRefusal c) is) ∙ ok))
 keeps (Attach p d) t o s fits ok =
     let fresh = fresh-by (viewOfTable t p) (fullTable t) ok in
     sound-attach (newRecord p d Unjoined) t s (fresh .1) (fresh .0) refl (fit-bare p d Unjoined (and-left (ltb p portCount) (ltb d 65536) fits) (and-right (ltb p portCount) (ltb d 65536) fits))
@@ -129,3 +130,4 @@ keeps Empty t o s fits ok = record {
 }
 keeps (ToVirtual p) t o s fits ok = s
 keeps Feedback t o s fits ok = s
+keeps (CombinedValue p w) t o s fits ok = s

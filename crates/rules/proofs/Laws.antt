@@ -9,7 +9,7 @@ use borrow.Author.Tests.{eq-eqb}
 use Rattle.rules.specs.Table.{Table, portsOfTable, remove, apply}
 use Rattle.rules.specs.Cells.{tableAt, sound}
 use Rattle.rules.specs.Answer.{Answer, refused, accepted}
-use Rattle.rules.specs.Effect.{Effect}
+use Rattle.rules.specs.Effect.{Event, event}
 use Rattle.rules.specs.Datasets.{allDatasets}
 use Rattle.rules.specs.Offer.{judgeEntry, offerByCells, appliedTo, cellsAfter, datasetMessage, datasetByCells}
 use Rattle.rules.specs.Laws.{EmptySound, StepKeepsSound, RefusedChangesNothing, ReadingRefused, FreedIsEmpty, LowestPlace}
@@ -31,9 +31,9 @@ pub step-keeps-sound : StepKeepsSound
 unfolding cellsAfter offerByCells
 step-keeps-sound cells e b s = rw s (go (judgeEntry (portsOfTable (tableAt cells)) e) refl)
   where
-    go : (v : Answer Effect) → judgeEntry (portsOfTable (tableAt cells)) e ≡ v → sound (appliedTo cells v) ≡ true
+    go : (v : Answer Event) → judgeEntry (portsOfTable (tableAt cells)) e ≡ v → sound (appliedTo cells v) ≡ true
     go (refused n place) k = s
-    go (accepted x) k = is-sound (apply x (tableAt cells)) (kept (tableAt cells) (table-sound cells s) e b x k)
+    go (accepted (event x o)) k = is-sound (apply x o (tableAt cells)) (kept (tableAt cells) (table-sound cells s) e b x o k)
 
 pub refused-changes-nothing : RefusedChangesNothing
 unfolding cellsAfter

@@ -15,9 +15,10 @@ use Rattle.protocol.specs.Decode.{decode, openOf}
 use Rattle.protocol.specs.Decode as Decode
 use Rattle.protocol.specs.Answer.{messageOf}
 use Rattle.rules.specs.Answer.{Answer, refused, accepted, unlessRefused}
-use Rattle.rules.specs.Effect.{Effect, effectOf}
+use Rattle.rules.specs.Effect.{Event, event, Effect, effectOf}
 use Rattle.rules.specs.Facts.{Facts, Ports}
 use Rattle.rules.specs.Judge.{judge}
+use Rattle.rules.specs.OpenBytes.{heard}
 use Rattle.rules.specs.Ranges.{effectFits}
 use Rattle.rules.specs.Table.{Table, viewOfTable, portsOfTable, apply}
 use Rattle.rules.specs.Cells.{cellsOf, tableAt, sound}
@@ -31,13 +32,13 @@ use Rattle.rules.proofs.Kept.{keeps}
 
 -- ---- a message that was accepted
 
-pub record Accepted (ports : Ports) (e : Entry) (effect : Effect) : Type 0 where
+pub record Accepted (ports : Ports) (e : Entry) (x : Effect) (opens : List ℕ) : Type 0 where
   pub form : Form
   pub values : List Value
   pub read : decode (e .way) (e .bytes) ≡ Decode.accepted form values
-  pub is : effect ≡ effectOf (e .experiment) (messageOf form values)
-  pub opens : List ℕ
-  pub good : judge ports effect opens ≡ 0
+  pub is : x ≡ effectOf (e .experiment) (messageOf form values)
+  pub hears : opens ≡ heard (effectOf (e .experiment) (messageOf form values)) (openOf (e .bytes) (Decode.accepted form values))
+  pub good : judge ports x opens ≡ 0
 
 never : {A : Type 0} (n place : ℕ) (y : A) → refused n place ≡ accepted y → ⊥
 never n place y e = let z : _≡_ {A = ℕ} 0 1 = cc in omega arith
@@ -53,18 +54,24 @@ unless-accepted n a y e =
     (λ (k : eqb n 0 ≡ false). absurd (never _ _ y (rw k at e)))
     (which (eqb n 0))
 
-pub was-accepted : (ports : Ports) (e : Entry) (effect : Effect) → judgeEntry ports e ≡ accepted effect → Accepted ports e effect
+abbrev effectIn : Event → Effect
+effectIn (event x opens) = x
+
+abbrev opensOf : Event → List ℕ
+opensOf (event x opens) = opens
+
+pub was-accepted : (ports : Ports) (e : Entry) (x : Effect) (opens : List ℕ) → judgeEntry ports e ≡ accepted (event x opens) → Accepted ports e x opens
 unfolding judgeEntry
-was-accepted ports e effect k = go (decode (e .way) (e .bytes)) refl k
+was-accepted ports e x opens k = go (decode (e .way) (e .bytes)) refl k
   where
-    go : (a : Decode.Answer) → decode (e .way) (e .bytes) ≡ a → judgeReading ports (e .bytes) (e .experiment) a ≡ accepted effect → Accepted ports e effect
+    go : (a : Decode.Answer) → decode (e .way) (e .bytes) ≡ a → judgeReading ports (e .bytes) (e .experiment) a ≡ accepted (event x opens) → Accepted ports e x opens
     go (Decode.refused n place) r j = let z : _≡_ {A = ℕ} 0 1 = cc in absurd (omega arith)
     go (Decode.accepted f vs) r j =
-        let x : Effect = effectOf (e .experiment) (messageOf f vs) in
-        let opens : List ℕ = openOf (e .bytes) (Decode.accepted f vs) in
-        let v = unless-accepted (judge ports x opens) (accepted x) effect j in
-        let is : effect ≡ x = sym (same x effect (v .1)) in
-        record { form = f; values = vs; read = r; is = is; opens = opens; good = ap (λ (y : Effect). judge ports y opens) is ∙ v .0 }
+        let y : Effect = effectOf (e .experiment) (messageOf f vs) in
+        let o : List ℕ = heard y (openOf (e .bytes) (Decode.accepted f vs)) in
+        let v = unless-accepted (judge ports y o) (accepted (event y o)) (event x opens) j in
+        let both : event x opens ≡ event y o = sym (same (event y o) (event x opens) (v .1)) in
+        record { form = f; values = vs; read = r; is = ap effectIn both; hears = ap opensOf both; good = ap (λ (z : Event). judge ports (effectIn z) (opensOf z)) both ∙ v .0 }
 
 -- ---- the cells of a sound table
 
@@ -89,7 +96,9 @@ module _ (t : Table) (s : Sound t) where
   unfolding offerByCells
   judges e = rw (is-sound, back)
 
-  pub kept : (e : Entry) → EntryFits e → (x : Effect) → judgeEntry (portsOfTable t) e ≡ accepted x → Sound (apply x t)
-  kept e b x k =
-      let a = was-accepted (portsOfTable t) e x k in
-      keeps x t (a .opens) s (ap effectFits (a .is) ∙ effect-fits (e .experiment) (b .1) (e .way) (e .bytes) (b .0) (a .form) (a .values) (a .read)) (a .good)
+  pub kept : (e : Entry) → EntryFits e → (x : Effect) (opens : List ℕ) → judgeEntry (portsOfTable t) e ≡ accepted (event x opens) → Sound (apply x opens t)
+  kept e b x opens k =
+      let a = was-accepted (portsOfTable t) e x opens k in
+      keeps x t opens s
+      ((λ i. effectFits (a .is i) (a .hears i)) ∙ effect-fits (e .experiment) (b .1) (e .way) (e .bytes) (b .0) (a .form) (a .values) (a .read))
+      (a .good)

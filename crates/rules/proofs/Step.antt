@@ -9,7 +9,7 @@ use native.Mathlib.Omega.{arith}
 use borrow.Author.Tests.{eqb-true, eqb-false}
 use lib.Dec.{eqb}
 use Rattle.protocol.proofs.Tests.{which}
-use Rattle.rules.specs.Effect.{Effect, Nothing, ToPort, Attach, AttachVirtual, Detach, Value, Disconnect, Connect, Empty, ToVirtual, Feedback}
+use Rattle.rules.specs.Effect.{event, Effect, Nothing, ToPort, Attach, AttachVirtual, Detach, Value, Disconnect, Connect, Empty, ToVirtual, Feedback, CombinedValue}
 use Rattle.rules.specs.Facts.{Wiring, Unjoined, Joined, Virtual, Facts, known}
 use Rattle.rules.specs.Judge.{pairTest, judge}
 use Rattle.rules.specs.History.{History, plain, pair, Since, absent, since, unlessMember, sinceAttached, isPartner}
@@ -71,9 +71,9 @@ module _ (t : Table) (s : Sound t) (h : History) (f : Follows t h) (p : ℕ) whe
       (which (pairIn p (wiredIn t q)))
 
   -- a port's detachment, where its virtual port, if it has one, goes too
-  gone : (u : Table) → ((q : ℕ) → mapFacts unwire (viewOfTable u q) ≡ cond (eqb p q) none (factsSince (unlessMember p (sinceAttached q h)))) → Follows u (Detach p ∷ h)
+  gone : (o : List ℕ) (u : Table) → ((q : ℕ) → mapFacts unwire (viewOfTable u q) ≡ cond (eqb p q) none (factsSince (unlessMember p (sinceAttached q h)))) → Follows u (event (Detach p) o ∷ h)
   unfolding sinceAttached
-  gone u core q = core q ∙ sym (cond-ap factsSince (eqb p q) absent (unlessMember p (sinceAttached q h)))
+  gone o u core q = core q ∙ sym (cond-ap factsSince (eqb p q) absent (unlessMember p (sinceAttached q h)))
 
   -- what a port keeps that is not the virtual port of this one
   stays : (q : ℕ) → (wiredIn t p ≡ some (Joined q) → ⊥) → mapFacts unwire (viewOfTable t q) ≡ factsSince (unlessMember p (sinceAttached q h))
@@ -101,21 +101,21 @@ core-dissolve t s p a b here q =
     core-remove p (change b (wired Unjoined) (change a (wired Unjoined) t)) q
     ∙ unless p q (core-wired b Unjoined (Joined p) (change a (wired Unjoined) t) two refl q ∙ core-wired a Unjoined (Joined p) t one refl q)
 
-follows-detach : (t : Table) → Sound t → (h : History) → Follows t h → (p : ℕ) (y : Wiring) → wiredIn t p ≡ some y → Follows (detachBy p y t) (Detach p ∷ h)
-follows-detach t s h f p Unjoined e =
-    gone t s h f p (remove p t) λ q. core-remove p t q ∙ unless p q (stays t s h f p q (λ (k : wiredIn t p ≡ some (Joined q)). unjoined-joined q (sym e ∙ k)))
-follows-detach t s h f p (Joined v) e =
+follows-detach : (t : Table) → Sound t → (h : History) → Follows t h → (p : ℕ) (o : List ℕ) (y : Wiring) → wiredIn t p ≡ some y → Follows (detachBy p y t) (event (Detach p) o ∷ h)
+follows-detach t s h f p o Unjoined e =
+    gone t s h f p o (remove p t) λ q. core-remove p t q ∙ unless p q (stays t s h f p q (λ (k : wiredIn t p ≡ some (Joined q)). unjoined-joined q (sym e ∙ k)))
+follows-detach t s h f p o (Joined v) e =
     let n = s .pairs .up p v e in
     let known-as : wiredAs (viewOfTable t v) ≡ Virtual (n .a) (n .b) = wired-as (viewOfTable t v) (Virtual (n .a) (n .b)) (n .pair) in
     let u : Table = dissolve v (n .a) (n .b) t in
     let m : isPartner p (sinceAttached v h) ≡ true = member-is t h f v p ∙ ap (pairIn p) (n .pair) ∙ or-either (n .a) (n .b) p (n .member) in
-    rw known-as (gone t s h f p (remove p u) λ q. core-remove p u q ∙ unless p q (core-dissolve t s v (n .a) (n .b) (n .pair) q ∙ goes t s h f p v e m q))
-follows-detach t s h f p (Virtual a b) e =
-    gone t s h f p (dissolve p a b t) λ q. core-dissolve t s p a b e q ∙ unless p q (stays t s h f p q (λ (k : wiredIn t p ≡ some (Joined q)). joined-virtual q a b (sym k ∙ e)))
+    rw known-as (gone t s h f p o (remove p u) λ q. core-remove p u q ∙ unless p q (core-dissolve t s v (n .a) (n .b) (n .pair) q ∙ goes t s h f p v e m q))
+follows-detach t s h f p o (Virtual a b) e =
+    gone t s h f p o (dissolve p a b t) λ q. core-dissolve t s p a b e q ∙ unless p q (stays t s h f p q (λ (k : wiredIn t p ≡ some (Joined q)). joined-virtual q a b (sym k ∙ e)))
 
-detach-known : (t : Table) → Sound t → (h : History) → Follows t h → (p : ℕ) (x : Option Facts) → viewOfTable t p ≡ x → known x ≡ true → Follows (detachBy p (wiredAs x) t) (Detach p ∷ h)
-detach-known t s h f p none e k = let z : _≡_ {A = ℕ} 0 1 = cc in absurd (omega arith)
-detach-known t s h f p (some g) e k = follows-detach t s h f p (g .wiring) (ap wiring? e)
+detach-known : (t : Table) → Sound t → (h : History) → Follows t h → (p : ℕ) (o : List ℕ) (x : Option Facts) → viewOfTable t p ≡ x → known x ≡ true → Follows (detachBy p (wiredAs x) t) (event (Detach p) o ∷ h)
+detach-known t s h f p o none e k = let z : _≡_ {A = ℕ} 0 1 = cc in absurd (omega arith)
+detach-known t s h f p o (some g) e k = follows-detach t s h f p o (g .wiring) (ap wiring? e)
 
 -- ---- attachments
 
@@ -127,15 +127,15 @@ absent-after a b p g t e =
     nothing-there true = refl
     nothing-there false = refl
 
-follows-attach : (t : Table) (h : History) → Follows t h → (p d : ℕ) → fullTable t ≡ false → viewOfTable t p ≡ none → Follows (insert (newRecord p d Unjoined) t) (Attach p d ∷ h)
+follows-attach : (t : Table) (h : History) → Follows t h → (p d : ℕ) (o : List ℕ) → fullTable t ≡ false → viewOfTable t p ≡ none → Follows (insert (newRecord p d Unjoined) t) (event (Attach p d) o ∷ h)
 unfolding sinceAttached
-follows-attach t h f p d room fresh q =
+follows-attach t h f p d o room fresh q =
     core-insert (newRecord p d Unjoined) t room fresh q ∙ ap (λ (x : Option Facts). cond (eqb p q) (some (bare d Unjoined)) x) (f q) ∙ sym (cond-ap factsSince (eqb p q) (since (plain d) []) (sinceAttached q h))
 
-follows-virtual : (t : Table) (h : History) → Follows t h → (p d a b : ℕ) → fullTable t ≡ false → viewOfTable t p ≡ none → wiredIn t a ≡ some Unjoined → wiredIn t b ≡ some Unjoined → (a ≡ b → ⊥)
-    → Follows (insert (newRecord p d (Virtual a b)) (change b (wired (Joined p)) (change a (wired (Joined p)) t))) (AttachVirtual p d a b ∷ h)
+follows-virtual : (t : Table) (h : History) → Follows t h → (p d a b : ℕ) (o : List ℕ) → fullTable t ≡ false → viewOfTable t p ≡ none → wiredIn t a ≡ some Unjoined → wiredIn t b ≡ some Unjoined → (a ≡ b → ⊥)
+    → Follows (insert (newRecord p d (Virtual a b)) (change b (wired (Joined p)) (change a (wired (Joined p)) t))) (event (AttachVirtual p d a b) o ∷ h)
 unfolding sinceAttached
-follows-virtual t h f p d a b room fresh one two ab q =
+follows-virtual t h f p d a b o room fresh one two ab q =
     let u : Table = change b (wired (Joined p)) (change a (wired (Joined p)) t) in
     let room′ : fullTable u ≡ false = full-change b (wired (Joined p)) (change a (wired (Joined p)) t) ∙ full-change a (wired (Joined p)) t ∙ room in
     let second : wiredIn (change a (wired (Joined p)) t) b ≡ some Unjoined = wired-change a (Joined p) Unjoined t one b ∙ put-other a (some (Joined p)) (wiredIn t) b ab ∙ two in
@@ -145,23 +145,24 @@ follows-virtual t h f p d a b room fresh one two ab q =
 
 -- ---- every message
 
-pub follows-step : (e : Effect) (t : Table) (h : History) (opens : List ℕ) → Sound t → Follows t h → judge (portsOfTable t) e opens ≡ 0 → Follows (apply e t) (e ∷ h)
+pub follows-step : (e : Effect) (t : Table) (h : History) (opens : List ℕ) → Sound t → Follows t h → judge (portsOfTable t) e opens ≡ 0 → Follows (apply e opens t) (event e opens ∷ h)
 unfolding judge apply sinceAttached
 follows-step Nothing t h o s f ok = f
 follows-step (ToPort p c) t h o s f ok =
     λ q.
-    core-change p (onSettings (learn c)) (λ g. refl) t q ∙ ap (after p (onSettings (learn c)) q) (f q) ∙ sym (facts-told (eqb p q) c (sinceAttached q h))
+    core-change p (onSettings (learn c o)) (λ g. refl) t q ∙ ap (after p (onSettings (learn c o)) q) (f q) ∙ sym (facts-told (eqb p q) c o (sinceAttached q h))
 follows-step (Attach p d) t h o s f ok =
     let fresh = fresh-by (viewOfTable t p) (fullTable t) ok in
-    follows-attach t h f p d (fresh .1) (fresh .0)
+    follows-attach t h f p d o (fresh .1) (fresh .0)
 follows-step (AttachVirtual p d a b) t h o s f ok =
     let fresh = virtual-by (viewOfTable t p) (pairTest (viewOfTable t) a b) (fullTable t) ok in
     let good = good-pair t a b (fresh .1) in
-    follows-virtual t h f p d a b (fresh .2) (fresh .0) (good .one) (good .two) (good .apart)
-follows-step (Detach p) t h o s f ok = detach-known t s h f p (viewOfTable t p) refl (wanted (viewOfTable t p) ok)
+    follows-virtual t h f p d a b o (fresh .2) (fresh .0) (good .one) (good .two) (good .apart)
+follows-step (Detach p) t h o s f ok = detach-known t s h f p o (viewOfTable t p) refl (wanted (viewOfTable t p) ok)
 follows-step (Value p) t h o s f ok = f
 follows-step (Disconnect p) t h o s f ok = f
 follows-step (Connect a b) t h o s f ok = f
 follows-step Empty t h o s f ok = λ q. ap (mapFacts unwire) (view-freed t q)
 follows-step (ToVirtual p) t h o s f ok = f
 follows-step Feedback t h o s f ok = f
+follows-step (CombinedValue p w) t h o s f ok = f

@@ -1,14 +1,23 @@
 -- What a message is to the port table: document 01's table rules.
 use Prim.Native.Nat.{ℕ}
 use mathlib.Core.Bool.{Bool, cond}
+use mathlib.Core.List.{List}
 use Rattle.protocol.specs.Rule.{between}
 use Rattle.protocol.specs.declared.Message.{Message}
 use Rattle.protocol.specs.declared.Message.the-variants as Message'
 use Rattle.rules.specs.Facts.{Setup}
 pub use Rattle.rules.specs.declared.Change.{Change}
-pub use Rattle.rules.specs.declared.Change.the-variants.{Unchanged, Formatted, Answered, Asked}
+pub use Rattle.rules.specs.declared.Change.the-variants.{Unchanged, Formatted, Answered, Asked, Listed, Combined}
 pub use Rattle.rules.specs.declared.Effect.{Effect}
-pub use Rattle.rules.specs.declared.Effect.the-variants.{Nothing, ToPort, Attach, AttachVirtual, Detach, Value, Disconnect, Connect, Empty, ToVirtual, Feedback}
+pub use Rattle.rules.specs.declared.Effect.the-variants.{Nothing, ToPort, Attach, AttachVirtual, Detach, Value, Disconnect, Connect, Empty, ToVirtual, Feedback, CombinedValue}
+
+-- an accepted message: what it is to the table, and its open bytes
+pub data Event : Type 0 where
+  event : Effect → List ℕ → Event
+
+-- and so what a port is told
+pub data Told : Type 0 where
+  told : Change → List ℕ → Told
 
 abbrev pub setup : ℕ → ℕ → ℕ → Setup
 setup m d n = record { mode = m; delta = d; notify = n }
@@ -20,7 +29,7 @@ emptiesTable a = between 0x30 0x32 a
 abbrev pub actionEffect : ℕ → Effect
 actionEffect a = cond (emptiesTable a) Empty Nothing
 
--- a message with its experiment number, which only a 41 hands on
+-- a message with its experiment number, which only a 41 and a list hand on
 unfoldable pub effectOf : ℕ → Message → Effect
 effectOf experiment (Message'.PropertyCommand p o) = Nothing
 effectOf experiment (Message'.PropertyText p o) = Nothing
@@ -60,3 +69,7 @@ effectOf experiment (Message'.GotoAbsolutePosition port s a v w e u) = ToPort po
 effectOf experiment (Message'.GotoAbsolutePositions port s a b v w e u) = ToVirtual port
 effectOf experiment (Message'.PresetEncoders port s l r) = ToVirtual port
 effectOf experiment Message'.OutputFeedback = Feedback
+effectOf experiment (Message'.CombinedSetup port s) = ToPort port Unchanged
+effectOf experiment (Message'.ModeDatasets port x) = ToPort port (Listed experiment)
+effectOf experiment (Message'.PortValueCombined port p) = CombinedValue port p
+effectOf experiment (Message'.InputFormatCombined port c p) = ToPort port (Combined p)

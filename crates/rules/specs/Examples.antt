@@ -13,9 +13,9 @@ use Rattle.protocol.specs.declared.Message.the-variants as Message'
 use Rattle.protocol.specs.declared.Way.the-variants.{Down, Up}
 use Rattle.rules.specs.Answer.{Answer, refused, accepted, outcome}
 use Rattle.rules.specs.Effect.{setup, Unchanged, Formatted, ToPort, ToVirtual, effectOf}
-use Rattle.rules.specs.Facts.{Setup, Format, Settings, Wiring, Unjoined, Joined, Virtual, Facts}
+use Rattle.rules.specs.Facts.{Setup, Format, askedSingle, answeredSingle, Settings, Wiring, Unjoined, Joined, Virtual, Facts}
 use Rattle.rules.specs.ValueLookup.{valueExperiment}
-use Rattle.rules.specs.Judge.{widthOf, refusalUnlessVirtual, portsNamed}
+use Rattle.rules.specs.Judge.{refusalUnlessVirtual, portsNamed}
 use Rattle.rules.specs.Learn.{bareSettings, learn}
 use Rattle.rules.specs.Offer.{Entry, offerByPast, datasetByPast, viewOfPast}
 use Rattle.rules.specs.Present.{portsBelow}
@@ -23,6 +23,7 @@ use Rattle.rules.specs.Table.{Record, Table, viewOfTable, bare}
 use Rattle.rules.specs.Dataset.{Dataset, Number, whole, float, stamped, wholeAt, datasetOf}
 use Rattle.rules.specs.Datasets.{allDatasets}
 use Rattle.rules.specs.WellFormed.{wellFormed}
+use Rattle.rules.specs.Width.{widthOf}
 
 -- ---- messages
 
@@ -182,10 +183,14 @@ numbers before n = record { said = numberOf (viewOfPast (latestFirst [] before) 
 abbrev wired : ℕ → Wiring → Option Record
 wired port w = some (record { port = port; facts = record { device = 0x26; wiring = w; settings = bareSettings } })
 
--- one port with what was answered, what was asked, the state and the experiment number
+-- one port with the latest 47, the latest 41, the state and the experiment number
+abbrev optional : {A B : Type 0} → (A → B) → Option A → Option B
+optional f none = none
+optional f (some a) = some (f a)
+
 abbrev settled : Option Setup → Option Setup → ℕ → ℕ → Table
 settled answered asked state experiment =
-    some (record { port = 0; facts = record { device = 0x26; wiring = Unjoined; settings = record { formats = λ mode. none; answered = answered; asked = asked; state = state; experiment = experiment } } }) ∷ []
+    some (record { port = 0; facts = record { device = 0x26; wiring = Unjoined; settings = record { formats = λ mode. none; answered = optional answeredSingle answered; asked = optional askedSingle asked; list = none; state = state; experiment = experiment } } }) ∷ []
 
 abbrev stated : Option Setup → Option Setup → ℕ → Table
 stated answered asked state = settled answered asked state 0
@@ -198,7 +203,7 @@ formatted n k =
       facts = record {
         device = 0x26;
         wiring = Unjoined;
-        settings = learn (Formatted 2 (record { datasets = n; kind = k; figures = 4; decimals = 0 })) bareSettings;
+        settings = learn (Formatted 2 (record { datasets = n; kind = k; figures = 4; decimals = 0 })) [] bareSettings;
       };
     })
     ∷ []
@@ -454,7 +459,7 @@ PortsInOrder = portsBelow 10 (viewOfTable (unjoined 7 ∷ none ∷ unjoined 12 �
 
 -- a value's experiment number at a port whose number is 7, by the state
 abbrev inState : ℕ → Settings
-inState state = record { formats = λ mode. none; answered = none; asked = none; state = state; experiment = 7 }
+inState state = record { formats = λ mode. none; answered = none; asked = none; list = none; state = state; experiment = 7 }
 
 abbrev ValueExperiments : Type 0
 ValueExperiments = map (λ state. valueExperiment (inState state)) (0 ∷ 1 ∷ 2 ∷ 3 ∷ []) ≡ 0 ∷ 0 ∷ 7 ∷ 0 ∷ []

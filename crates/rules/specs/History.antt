@@ -1,17 +1,17 @@
 -- The reader without a table: which ports are present, and what is known of them, from the list of earlier messages alone,
--- by going back through it. A history is what the accepted messages are to a table, the latest first.
+-- by going back through it. A history is the accepted messages, the latest first.
 use Prim.Native.Nat.{ℕ, zero, suc, _+_}
 use mathlib.Core.Bool.{Bool, true, false, cond, _||_}
 use mathlib.Core.List.{List, [], _∷_}
 use mathlib.Core.Option.{Option, none, some}
 use lib.Dec.{eqb, leb}
 use Rattle.rules.specs.Layout.{portCount}
-use Rattle.rules.specs.Effect.{Change, Effect, Nothing, ToPort, Attach, AttachVirtual, Detach, Value, Disconnect, Connect, Empty, ToVirtual, Feedback}
-use Rattle.rules.specs.Facts.{Wiring, Unjoined, Joined, Virtual, Facts, View, Modes, Ports, modeIn, known}
-use Rattle.rules.specs.Latest.{latest, answer, settingsOf}
+use Rattle.rules.specs.Effect.{Told, told, Event, event, Effect, Nothing, ToPort, Attach, AttachVirtual, Detach, Value, Disconnect, Connect, Empty, ToVirtual, Feedback, CombinedValue}
+use Rattle.rules.specs.Facts.{Wiring, Unjoined, Joined, Virtual, Facts, View, Mode, Modes, Ports, modeIn, known}
+use Rattle.rules.specs.Latest.{latestAnswer, settingsOf}
 
 abbrev pub History : Type 0
-History = List Effect
+History = List Event
 
 -- an attachment, plain or virtual: its device, and the members as sent
 pub data Attachment : Type 0 where
@@ -21,14 +21,14 @@ pub data Attachment : Type 0 where
 -- a port since its latest attachment: not present, or the attachment and the changes that it was told since, the latest first
 pub data Since : Type 0 where
   absent : Since
-  since : Attachment → List Change → Since
+  since : Attachment → List Told → Since
 
 -- a virtual port ends with the detachment of a member
 abbrev pub hasMember : Attachment → ℕ → Bool
 hasMember (plain device) port = false
 hasMember (pair device a b) port = eqb a port || eqb b port
 
-abbrev pub addChange : Change → Since → Since
+abbrev pub addChange : Told → Since → Since
 addChange c absent = absent
 addChange c (since a changes) = since a (c ∷ changes)
 
@@ -36,21 +36,26 @@ abbrev pub unlessMember : ℕ → Since → Since
 unlessMember port absent = absent
 unlessMember port (since a changes) = cond (hasMember a port) absent (since a changes)
 
--- going back from the latest: the port's attachment; one of document 01's endings, which are its detachment, a member's
--- detachment for a virtual port, and a table-emptying notice; or neither
+-- one message, and the port before it: its attachment; one of document 01's endings, which are its detachment, a member's detachment
+-- for a virtual port, and a table-emptying notice; something that it is told; or none of these
+abbrev pub sinceThen : ℕ → Effect → List ℕ → Since → Since
+sinceThen port Nothing opens before = before
+sinceThen port (ToPort p c) opens before = cond (eqb p port) (addChange (told c opens) before) before
+sinceThen port (Attach p device) opens before = cond (eqb p port) (since (plain device) []) before
+sinceThen port (AttachVirtual p device a b) opens before = cond (eqb p port) (since (pair device a b) []) before
+sinceThen port (Detach p) opens before = cond (eqb p port) absent (unlessMember p before)
+sinceThen port (Value p) opens before = before
+sinceThen port (Disconnect p) opens before = before
+sinceThen port (Connect a b) opens before = before
+sinceThen port Empty opens before = absent
+sinceThen port (ToVirtual p) opens before = before
+sinceThen port Feedback opens before = before
+sinceThen port (CombinedValue p pointers) opens before = before
+
+-- going back from the latest
 unfoldable pub sinceAttached : ℕ → History → Since
 sinceAttached port [] = absent
-sinceAttached port (Nothing ∷ h) = sinceAttached port h
-sinceAttached port (ToPort p c ∷ h) = cond (eqb p port) (addChange c (sinceAttached port h)) (sinceAttached port h)
-sinceAttached port (Attach p device ∷ h) = cond (eqb p port) (since (plain device) []) (sinceAttached port h)
-sinceAttached port (AttachVirtual p device a b ∷ h) = cond (eqb p port) (since (pair device a b) []) (sinceAttached port h)
-sinceAttached port (Detach p ∷ h) = cond (eqb p port) absent (unlessMember p (sinceAttached port h))
-sinceAttached port (Value p ∷ h) = sinceAttached port h
-sinceAttached port (Disconnect p ∷ h) = sinceAttached port h
-sinceAttached port (Connect a b ∷ h) = sinceAttached port h
-sinceAttached port (Empty ∷ h) = absent
-sinceAttached port (ToVirtual p ∷ h) = sinceAttached port h
-sinceAttached port (Feedback ∷ h) = sinceAttached port h
+sinceAttached port (event e opens ∷ h) = sinceThen port e opens (sinceAttached port h)
 
 -- document 01's partner of a joined port: the virtual port that is present and names it, looked for below a number
 abbrev pub isPartner : ℕ → Since → Bool
@@ -80,10 +85,10 @@ factsOf port h (since a changes) = some (record { device = deviceOf a; wiring = 
 unfoldable pub viewOfHistory : History → View
 viewOfHistory h port = factsOf port h (sinceAttached port h)
 
--- the mode is the latest 47's since the attachment
-abbrev pub modeSince : Since → Option ℕ
+-- the mode is that of the latest 47 since the attachment; a 48 has its list in place of one
+abbrev pub modeSince : Since → Option Mode
 modeSince absent = none
-modeSince (since a changes) = modeIn (latest answer changes)
+modeSince (since a changes) = modeIn (latestAnswer changes)
 
 unfoldable pub modesOfHistory : History → Modes
 modesOfHistory h port = modeSince (sinceAttached port h)

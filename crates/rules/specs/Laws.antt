@@ -13,7 +13,7 @@ use Rattle.rules.specs.Table.{Record, Table, fullTable, insert, remove}
 use Rattle.rules.specs.Layout.{stride}
 use Rattle.rules.specs.Answer.{Answer, refused, accepted, outcome}
 use Rattle.rules.specs.Cells.{placeCells, tableAt, sound, emptyCells}
-use Rattle.rules.specs.Effect.{Change, Unchanged, Formatted, Answered, Asked, Effect, Nothing, ToPort, Attach, AttachVirtual, Detach, Value, Disconnect, Connect, Empty, ToVirtual, Feedback}
+use Rattle.rules.specs.Effect.{Change, Unchanged, Formatted, Answered, Asked, Listed, Combined, Event, event, Effect, Nothing, ToPort, Attach, AttachVirtual, Detach, Value, Disconnect, Connect, Empty, ToVirtual, Feedback, CombinedValue}
 use Rattle.rules.specs.Dataset.{Dataset}
 use Rattle.rules.specs.Offer.{Entry, offerByCells, cellsAfter, datasetByCells, valuesByCells}
 use Rattle.rules.specs.Demand3.{EntryFits}
@@ -53,8 +53,10 @@ asks Unchanged = false
 asks (Formatted m f) = false
 asks (Answered s) = false
 asks (Asked s n) = true
+asks (Listed n) = true
+asks (Combined p) = false
 
--- an accepted 41
+-- an accepted asking, a 41 or a list
 abbrev pub isAsking : Effect → Bool
 isAsking Nothing = false
 isAsking (ToPort port c) = asks c
@@ -67,15 +69,16 @@ isAsking (Connect a b) = false
 isAsking Empty = false
 isAsking (ToVirtual port) = false
 isAsking Feedback = false
+isAsking (CombinedValue port p) = false
 
-abbrev pub acceptedAsking : Answer Effect → Bool
+abbrev pub acceptedAsking : Answer Event → Bool
 acceptedAsking (refused n place) = false
-acceptedAsking (accepted e) = isAsking e
+acceptedAsking (accepted (event e opens)) = isAsking e
 
 abbrev pub numbered : Way → List ℕ → ℕ → Entry
 numbered way bytes n = record { way = way; bytes = bytes; experiment = n }
 
--- whether a message is accepted does not depend on its number; nor does the table afterwards, unless it is an accepted 41
+-- whether a message is accepted does not depend on its number; nor does the table afterwards, unless it is an accepted asking
 abbrev pub NumberOfAskingOnly : Type 0
 NumberOfAskingOnly =
     (cells : List ℕ) (way : Way) (bytes : List ℕ) (n m : ℕ)

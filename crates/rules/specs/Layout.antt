@@ -20,7 +20,7 @@ places = 16
 
 -- cells of a place
 abbrev pub stride : ℕ
-stride = 29
+stride = 63
 
 -- cells of a table
 abbrev pub tableSize : ℕ
@@ -47,17 +47,26 @@ secondIndex = 4
 abbrev pub stateIndex : ℕ
 stateIndex = 5
 
--- three cells each, from here on: the mode plus one (0: none), the delta, the notify
+-- the latest asking: of a 41 the mode plus one, the delta, the notify; of a list 17, 0, 0; 0, 0, 0 before any
 abbrev pub askedIndex : ℕ
 askedIndex = 6
 
--- the experiment number that came with the latest 41; 0 before any
+-- the experiment number that came with it; 0 before any
 abbrev pub experimentIndex : ℕ
 experimentIndex = 9
 
+-- the latest answer: of a 47 the mode plus one, the delta, the notify; of a 48 17, the pointers, 0; 0, 0, 0 before any
 abbrev pub answeredIndex : ℕ
 answeredIndex = 10
 
 -- the first of sixteen, by mode: 0 none, else the format's four bytes, the first the least significant
 abbrev pub formatsIndex : ℕ
 formatsIndex = 13
+
+-- a list of modes and datasets: how many entries it has, 0 where there is none; then sixteen cells, an entry each and zeros
+-- after them. First the one that the port keeps, then the one that its 48 took over
+abbrev pub listIndex : ℕ
+listIndex = 29
+
+abbrev pub takenIndex : ℕ
+takenIndex = 46

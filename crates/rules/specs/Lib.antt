@@ -3,6 +3,9 @@ pub mod Answer
 pub mod Facts
 pub mod Present
 pub mod Effect
+pub mod Width
+pub mod Entries
+pub mod Pointers
 pub mod ValueLookup
 pub mod Judge
 pub mod Dataset

@@ -8,9 +8,10 @@ use Rattle.protocol.specs.Decode.{decode, openOf}
 use Rattle.protocol.specs.Answer.{messageOf}
 use Rattle.protocol.specs.declared.Way.{Way}
 use Rattle.rules.specs.Answer.{Answer, refused, accepted, unlessRefused}
-use Rattle.rules.specs.Effect.{Effect, effectOf}
+use Rattle.rules.specs.Effect.{Event, event, effectOf}
 use Rattle.rules.specs.Facts.{View, Modes, Ports}
 use Rattle.rules.specs.Judge.{judge}
+use Rattle.rules.specs.OpenBytes.{heard}
 use Rattle.rules.specs.Dataset.{Dataset, datasetAnswer}
 use Rattle.rules.specs.Datasets.{allDatasets}
 use Rattle.rules.specs.History.{History, viewOfHistory, modesOfHistory, portsOfHistory}
@@ -23,20 +24,23 @@ pub record Entry : Type 0 where
   pub bytes : List ℕ
   pub experiment : ℕ
 
--- what an accepted message is to a table; reading comes first, then 10 to 16 and 22
-abbrev pub judgeReading : Ports → List ℕ → ℕ → Decode.Answer → Answer Effect
+-- what an accepted message is to a table, with the open bytes that a table looks at; reading comes first, then 10 to 16 and 20 to 22
+abbrev pub judgeReading : Ports → List ℕ → ℕ → Decode.Answer → Answer Event
 judgeReading ports s experiment (Decode.refused n place) = refused n place
 judgeReading ports s experiment (Decode.accepted f vs) =
     let e = effectOf experiment (messageOf f vs) in
-    unlessRefused (judge ports e (openOf s (Decode.accepted f vs))) (accepted e)
+    let opens = heard e (openOf s (Decode.accepted f vs)) in
+    unlessRefused (judge ports e opens) (accepted (event e opens))
 
-unfoldable pub judgeEntry : Ports → Entry → Answer Effect
+unfoldable pub judgeEntry : Ports → Entry → Answer Event
 judgeEntry ports e = judgeReading ports (e .bytes) (e .experiment) (decode (e .way) (e .bytes))
 
--- handing out takes no experiment number: the 0 is that of a 41, which has no datasets
+-- handing out takes no experiment number: the 0 is that of an asking, which has no datasets
 abbrev pub datasetReading : Ports → List ℕ → ℕ → Decode.Answer → Answer Dataset
 datasetReading ports s number (Decode.refused n place) = refused n place
-datasetReading ports s number (Decode.accepted f vs) = datasetAnswer ports (effectOf 0 (messageOf f vs)) (openOf s (Decode.accepted f vs)) number
+datasetReading ports s number (Decode.accepted f vs) =
+    let e = effectOf 0 (messageOf f vs) in
+    datasetAnswer ports e (heard e (openOf s (Decode.accepted f vs))) number
 
 unfoldable pub datasetMessage : Ports → Way → List ℕ → ℕ → Answer Dataset
 datasetMessage ports way bytes number = datasetReading ports bytes number (decode way bytes)
@@ -47,13 +51,13 @@ abbrev pub portsOfCells : List ℕ → Ports
 portsOfCells cells = portsOfTable (tableAt cells)
 
 -- 9: the table isn't sound; then as the rules say
-unfoldable pub offerByCells : List ℕ → Entry → Answer Effect
+unfoldable pub offerByCells : List ℕ → Entry → Answer Event
 offerByCells cells e = cond (sound cells) (judgeEntry (portsOfCells cells) e) (refused 9 0)
 
 -- the lent cells afterwards: changed by an accepted message only
-abbrev pub appliedTo : List ℕ → Answer Effect → List ℕ
+abbrev pub appliedTo : List ℕ → Answer Event → List ℕ
 appliedTo cells (refused n place) = cells
-appliedTo cells (accepted e) = cellsOf (apply e (tableAt cells))
+appliedTo cells (accepted (event e opens)) = cellsOf (apply e opens (tableAt cells))
 
 unfoldable pub cellsAfter : List ℕ → Entry → List ℕ
 cellsAfter cells e = appliedTo cells (offerByCells cells e)
@@ -73,7 +77,7 @@ modesOfCells cells = modesOfTable (tableAt cells)
 
 -- ---- without a table, by the earlier entries, the latest first
 
-abbrev pub extendHistory : History → Answer Effect → History
+abbrev pub extendHistory : History → Answer Event → History
 extendHistory h (refused n place) = h
 extendHistory h (accepted e) = e ∷ h
 
@@ -82,7 +86,7 @@ abbrev pub acceptedHistory : List Entry → History
 acceptedHistory [] = []
 acceptedHistory (e ∷ past) = extendHistory (acceptedHistory past) (judgeEntry (portsOfHistory (acceptedHistory past)) e)
 
-abbrev pub offerByPast : List Entry → Entry → Answer Effect
+abbrev pub offerByPast : List Entry → Entry → Answer Event
 offerByPast past e = judgeEntry (portsOfHistory (acceptedHistory past)) e
 
 abbrev pub datasetByPast : List Entry → Way → List ℕ → ℕ → Answer Dataset

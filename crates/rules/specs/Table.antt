@@ -4,8 +4,8 @@ use mathlib.Core.Bool.{Bool, true, false, cond}
 use mathlib.Core.List.{List, [], _∷_, map}
 use mathlib.Core.Option.{Option, none, some}
 use lib.Dec.{eqb}
-use Rattle.rules.specs.Effect.{Effect, Nothing, ToPort, Attach, AttachVirtual, Detach, Value, Disconnect, Connect, Empty, ToVirtual, Feedback}
-use Rattle.rules.specs.Facts.{Settings, Wiring, Unjoined, Joined, Virtual, Facts, View, Modes, Ports, modeIn}
+use Rattle.rules.specs.Effect.{Effect, Nothing, ToPort, Attach, AttachVirtual, Detach, Value, Disconnect, Connect, Empty, ToVirtual, Feedback, CombinedValue}
+use Rattle.rules.specs.Facts.{Settings, Wiring, Unjoined, Joined, Virtual, Facts, View, Mode, Modes, Ports, modeIn}
 use Rattle.rules.specs.Learn.{bareSettings, learn}
 
 pub record Record : Type 0 where
@@ -27,8 +27,8 @@ viewOfTable [] port = none
 viewOfTable (none ∷ t) port = viewOfTable t port
 viewOfTable (some r ∷ t) port = cond (eqb (r .port) port) (some (r .facts)) (viewOfTable t port)
 
--- a value takes the latest 47's mode
-abbrev pub modeBy : Option Facts → Option ℕ
+-- a value takes the latest 47's mode; a 48 has its list in place of one
+abbrev pub modeBy : Option Facts → Option Mode
 modeBy none = none
 modeBy (some f) = modeIn (f .settings .answered)
 
@@ -93,16 +93,17 @@ detachBy port (Virtual a b) t = dissolve port a b t
 abbrev pub freed : Option Record → Option Record
 freed place = none
 
--- an accepted message
-unfoldable pub apply : Effect → Table → Table
-apply Nothing t = t
-apply (ToPort port c) t = change port (onSettings (learn c)) t
-apply (Attach port device) t = insert (newRecord port device Unjoined) t
-apply (AttachVirtual port device a b) t = insert (newRecord port device (Virtual a b)) (change b (wired (Joined port)) (change a (wired (Joined port)) t))
-apply (Detach port) t = detachBy port (wiredAs (viewOfTable t port)) t
-apply (Value port) t = t
-apply (Disconnect port) t = t
-apply (Connect a b) t = t
-apply Empty t = map freed t
-apply (ToVirtual port) t = t
-apply Feedback t = t
+-- an accepted message, with its open bytes
+unfoldable pub apply : Effect → List ℕ → Table → Table
+apply Nothing opens t = t
+apply (ToPort port c) opens t = change port (onSettings (learn c opens)) t
+apply (Attach port device) opens t = insert (newRecord port device Unjoined) t
+apply (AttachVirtual port device a b) opens t = insert (newRecord port device (Virtual a b)) (change b (wired (Joined port)) (change a (wired (Joined port)) t))
+apply (Detach port) opens t = detachBy port (wiredAs (viewOfTable t port)) t
+apply (Value port) opens t = t
+apply (Disconnect port) opens t = t
+apply (Connect a b) opens t = t
+apply Empty opens t = map freed t
+apply (ToVirtual port) opens t = t
+apply Feedback opens t = t
+apply (CombinedValue port p) opens t = t

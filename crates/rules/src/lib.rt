@@ -27,8 +27,8 @@ pub enum Wiring {
 
 // What a message tells a port, which has to be present.
 pub enum Change {
-    // 0x21, 0x22, 0x43, a 0x44 with another information type than 0x80, and a 0x81 with sub command
-    // 0x0D: nothing that is kept.
+    // 0x21, 0x22, a 0x42 with another sub command than 1, 0x43, a 0x44 with another information type than
+    // 0x80, and a 0x81 with sub command 0x0D: nothing that is kept.
     Unchanged,
     // 0x44, information type 0x80
     Formatted { mode: u8, format: Format },
@@ -36,6 +36,10 @@ pub enum Change {
     Answered { setup: Setup },
     // 0x41, with the experiment number that came with it
     Asked { setup: Setup, experiment: u16 },
+    // 0x42, sub command 1, with the experiment number that came with it; the list is the message's open bytes
+    Listed { experiment: u16 },
+    // 0x48
+    Combined { pointers: u16 },
 }
 
 // What a message is to the port table.
@@ -83,6 +87,11 @@ pub enum Effect {
     },
     // 0x82: nothing that is kept; the ports named are among the open bytes.
     Feedback,
+    // 0x46; the values are the open bytes.
+    CombinedValue {
+        port: u8,
+        pointers: u16,
+    },
 }
 
 // What a value of a port is read by: the mode that the hub last answered, the port's state, the experiment number that the
