@@ -27,39 +27,39 @@ use Rattle.rules.specs.Width.{widthOf}
 
 -- ---- messages
 
-abbrev up : List ℕ → Entry
+abbrev pub up : List ℕ → Entry
 up s = record { way = Up; bytes = s; experiment = 0 }
 
-abbrev down : List ℕ → Entry
+abbrev pub down : List ℕ → Entry
 down s = record { way = Down; bytes = s; experiment = 0 }
 
 -- a message with another experiment number
-abbrev during : ℕ → Entry → Entry
+abbrev pub during : ℕ → Entry → Entry
 during n e = record { way = e .way; bytes = e .bytes; experiment = n }
 
-abbrev attached : ℕ → Entry
+abbrev pub attached : ℕ → Entry
 attached port = up (0x0F ∷ 0x00 ∷ 0x04 ∷ port ∷ 0x01 ∷ 0x26 ∷ 0x00 ∷ 0x00 ∷ 0x00 ∷ 0x00 ∷ 0x10 ∷ 0x00 ∷ 0x00 ∷ 0x00 ∷ 0x10 ∷ [])
 
 abbrev virtual : ℕ → ℕ → ℕ → Entry
 virtual port a b = up (0x09 ∷ 0x00 ∷ 0x04 ∷ port ∷ 0x02 ∷ 0x26 ∷ 0x00 ∷ a ∷ b ∷ [])
 
-abbrev detached : ℕ → Entry
+abbrev pub detached : ℕ → Entry
 detached port = up (0x05 ∷ 0x00 ∷ 0x04 ∷ port ∷ 0x00 ∷ [])
 
 -- the rest is about port 0
 abbrev request : Entry
 request = down (0x05 ∷ 0x00 ∷ 0x21 ∷ 0x00 ∷ 0x01 ∷ [])
 
-abbrev format : ℕ → ℕ → ℕ → Entry
+abbrev pub format : ℕ → ℕ → ℕ → Entry
 format mode datasets kind = up (0x0A ∷ 0x00 ∷ 0x44 ∷ 0x00 ∷ mode ∷ 0x80 ∷ datasets ∷ kind ∷ 0x04 ∷ 0x00 ∷ [])
 
-abbrev asked : ℕ → ℕ → ℕ → Entry
+abbrev pub asked : ℕ → ℕ → ℕ → Entry
 asked mode delta notify = down (0x0A ∷ 0x00 ∷ 0x41 ∷ 0x00 ∷ mode ∷ delta ∷ 0x00 ∷ 0x00 ∷ 0x00 ∷ notify ∷ [])
 
-abbrev answered : ℕ → ℕ → ℕ → Entry
+abbrev pub answered : ℕ → ℕ → ℕ → Entry
 answered mode delta notify = up (0x0A ∷ 0x00 ∷ 0x47 ∷ 0x00 ∷ mode ∷ delta ∷ 0x00 ∷ 0x00 ∷ 0x00 ∷ notify ∷ [])
 
-abbrev value : List ℕ → Entry
+abbrev pub value : List ℕ → Entry
 value bytes = up ((4 + length bytes) ∷ 0x00 ∷ 0x45 ∷ 0x00 ∷ bytes)
 
 abbrev five : Entry
@@ -82,12 +82,14 @@ encoders port = down (0x0E ∷ 0x00 ∷ 0x81 ∷ port ∷ 0x11 ∷ 0x14 ∷ 0x00
 abbrev feedback : List ℕ → Entry
 feedback bytes = up ((3 + length bytes) ∷ 0x00 ∷ 0x82 ∷ bytes)
 
--- one of each form that wants its port present: 21, 22, 41, 43, 44, 45, 47, 81, 82 and a detachment
+-- one of each form that wants its port present: 21, 22, 41 to 48, 81, 82 and a detachment
 abbrev wanting : List Entry
 wanting =
     request
     ∷ down (0x06 ∷ 0x00 ∷ 0x22 ∷ 0x00 ∷ 0x02 ∷ 0x80 ∷ [])
     ∷ asked 2 1 1
+    ∷ down (0x05 ∷ 0x00 ∷ 0x42 ∷ 0x00 ∷ 0x06 ∷ [])
+    ∷ down (0x07 ∷ 0x00 ∷ 0x42 ∷ 0x00 ∷ 0x01 ∷ 0x00 ∷ 0x10 ∷ [])
     ∷ up (0x0B ∷ 0x00 ∷ 0x43 ∷ 0x00 ∷ 0x01 ∷ 0x07 ∷ 0x06 ∷ 0x1E ∷ 0x00 ∷ 0x1F ∷ 0x00 ∷ [])
     ∷ up (0x07 ∷ 0x00 ∷ 0x43 ∷ 0x00 ∷ 0x02 ∷ 0x0E ∷ 0x00 ∷ [])
     ∷ up (0x07 ∷ 0x00 ∷ 0x44 ∷ 0x00 ∷ 0x02 ∷ 0x00 ∷ 0x41 ∷ [])
@@ -97,7 +99,9 @@ wanting =
     ∷ up (0x0C ∷ 0x00 ∷ 0x44 ∷ 0x00 ∷ 0x02 ∷ 0x08 ∷ 0x00 ∷ 0x00 ∷ 0x00 ∷ 0x00 ∷ 0x00 ∷ 0x01 ∷ [])
     ∷ format 2 1 2
     ∷ five
+    ∷ up (0x07 ∷ 0x00 ∷ 0x46 ∷ 0x00 ∷ 0x00 ∷ 0x00 ∷ 0x00 ∷ [])
     ∷ answered 2 1 1
+    ∷ up (0x07 ∷ 0x00 ∷ 0x48 ∷ 0x00 ∷ 0x00 ∷ 0x00 ∷ 0x00 ∷ [])
     ∷ forDegrees 0
     ∷ toPosition 0
     ∷ toPositions 0
@@ -159,13 +163,13 @@ numberOf (some f) = numbered (f .settings .experiment)
 abbrev offers : List Entry → Entry → Answer (Unit {0}) → Example
 offers before e a = record { said = offered (outcome (offerByPast (latestFirst [] before) e)); wanted = offered a }
 
-abbrev accepts : List Entry → Entry → Example
+abbrev pub accepts : List Entry → Entry → Example
 accepts before e = offers before e (accepted tt)
 
-abbrev refuses : List Entry → Entry → ℕ → Example
+abbrev pub refuses : List Entry → Entry → ℕ → Example
 refuses before e n = offers before e (refused n 0)
 
-abbrev hands : List Entry → Entry → ℕ → Answer Dataset → Example
+abbrev pub hands : List Entry → Entry → ℕ → Answer Dataset → Example
 hands before e n a = record { said = dataset (datasetByPast (latestFirst [] before) (e .way) (e .bytes) n); wanted = dataset a }
 
 abbrev knows : List Entry → ℕ → Outcome → Example
@@ -175,7 +179,7 @@ knows before port o = record { said = portOf (viewOfPast (latestFirst [] before)
 abbrev formats : List Entry → ℕ → Option Format → Example
 formats before mode f = record { said = formatOf mode (viewOfPast (latestFirst [] before) 0); wanted = known f }
 
-abbrev numbers : List Entry → ℕ → Example
+abbrev pub numbers : List Entry → ℕ → Example
 numbers before n = record { said = numberOf (viewOfPast (latestFirst [] before) 0); wanted = numbered n }
 
 -- ---- tables, which the reader does not have: a few records, and whether they are well formed
@@ -208,7 +212,7 @@ formatted n k =
     })
     ∷ []
 
-abbrev table : Table → Bool → Example
+abbrev pub table : Table → Bool → Example
 table t b = record { said = fits (wellFormed t); wanted = fits b }
 
 -- ---- the examples
@@ -490,7 +494,7 @@ abbrev PortsOfPairs : Type 0
 PortsOfPairs = portsNamed (16 ∷ 0x0A ∷ 0 ∷ 0x01 ∷ 7 ∷ 0x02 ∷ []) ≡ 16 ∷ 0 ∷ 7 ∷ []
 
 -- what was said is what was wanted, row by row
-abbrev Hold : List Example → Type 0
+abbrev pub Hold : List Example → Type 0
 Hold rows = map (λ e. e .said) rows ≡ map (λ e. e .wanted) rows
 
 -- one statement, `examples-hold` in proofs/Examples.antt
