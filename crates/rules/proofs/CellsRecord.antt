@@ -195,7 +195,7 @@ module _ (s : Settings) (k : InLists s) where
       taken-fits (some (answeredSingle t)) list e l j = let z : _≡_ {A = ℕ} 0 1 = cc in absurd (omega arith)
       taken-fits (some (answeredCombined p taken)) list e l t =
           let is : taken ≡ l = cc in
-          rw (sym is) (and-right (not (isNone list)) (listFits taken) (and-left (not (isNone list) && listFits taken) (pointersFit p taken) e))
+          rw (sym is) (and-right (not (isNone list)) (listFits taken) (and-left (not (isNone list) && listFits taken) (pointersFit p (length taken)) e))
 
   settings-formats : NoHigh (s .formats) → (m : ℕ) → formatAt (getD (take modeCount (later s)) m 0) ≡ s .formats m
   settings-formats high m =

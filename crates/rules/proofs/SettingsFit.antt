@@ -7,6 +7,7 @@ use mathlib.Core.Option.{Option, none, some}
 use native.Mathlib.Omega.{arith}
 use borrow.Author.Tests.{eq-eqb, ne-eqb, leb-true}
 use lib.Dec.{eqb, leb, ltb}
+use lib.ListN.{length}
 use Rattle.protocol.specs.Form.{lastMode}
 use Rattle.protocol.proofs.Tests.{and-left, and-right}
 use Rattle.rules.specs.Layout.{modeCount, experimentCount}
@@ -114,7 +115,7 @@ take-fits p s (some list) e ok k =
       lists = fits-by (takeOver p (some list) s) (record {
         formats = l .formats;
         list = l .list;
-        answered = ap (answeredFits (some (answeredCombined p list))) e ∙ rw (good, taken (pointersFit p list) ok);
+        answered = ap (answeredFits (some (answeredCombined p list))) e ∙ rw (good, taken (pointersFit p (length list)) ok);
         asked = l .asked;
         state = ap (λ (x : Option (List ℕ)). stateFits (s .asked) (some (answeredCombined p list)) x (combinedState (s .asked) p list)) e ∙ combined-state (s .asked) p list;
         experiment = l .experiment;

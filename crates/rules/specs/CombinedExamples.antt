@@ -177,7 +177,7 @@ Pointed = (onesOf 0x8005 ≡ 0 ∷ 2 ∷ 15 ∷ []) × (pointed 5 (0x10 ∷ 0x20
 -- pointers with a list of two, and among 6
 abbrev Fitting : Type 0
 Fitting =
-    (map (λ p. pointersFit p two) (0 ∷ 1 ∷ 2 ∷ 3 ∷ 4 ∷ []) ≡ false ∷ true ∷ true ∷ true ∷ false ∷ [])
+    (map (λ p. pointersFit p (length two)) (0 ∷ 1 ∷ 2 ∷ 3 ∷ 4 ∷ []) ≡ false ∷ true ∷ true ∷ true ∷ false ∷ [])
     × (map (λ p. pointersAmong p 6) (0 ∷ 2 ∷ 4 ∷ 6 ∷ 1 ∷ 7 ∷ []) ≡ false ∷ true ∷ true ∷ true ∷ false ∷ false ∷ [])
 
 -- the whole list, for the table and for the reader

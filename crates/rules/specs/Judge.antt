@@ -60,7 +60,7 @@ allPresent view (port ∷ ports) = present view port && allPresent view ports
 -- whether a 48 can take a list over
 abbrev pub takesOver : ℕ → Option (List ℕ) → Bool
 takesOver p none = false
-takesOver p (some list) = pointersFit p list
+takesOver p (some list) = pointersFit p (length list)
 
 -- 21: a 48 with no list or a pointer past it, or with no pointer set
 abbrev pub changeRefusal : Change → Settings → ℕ

@@ -53,7 +53,7 @@ askedFits (some askedCombined) list = not (isNone list)
 abbrev pub answeredFits : Option Answering → Option (List ℕ) → Bool
 answeredFits none list = true
 answeredFits (some (answeredSingle s)) list = setupFits s
-answeredFits (some (answeredCombined p taken)) list = not (isNone list) && listFits taken && pointersFit p taken
+answeredFits (some (answeredCombined p taken)) list = not (isNone list) && listFits taken && pointersFit p (length taken)
 
 -- 2 or 3, by an answer that came after the asking
 abbrev pub answerState : Asking → Answering → ℕ
