@@ -209,6 +209,29 @@ pub fn effect_of(m: Message, experiment: u16) -> Effect
             left: _,
             right: _,
         } => Effect::ToVirtual { port },
+        Message::CombinedSetup {
+            port,
+            sub_command: _,
+        } => Effect::ToPort {
+            port,
+            change: Change::Unchanged,
+        },
+        Message::ModeDatasets {
+            port,
+            combination: _,
+        } => Effect::ToPort {
+            port,
+            change: Change::Listed { experiment },
+        },
+        Message::PortValueCombined { port, pointers } => Effect::CombinedValue { port, pointers },
+        Message::InputFormatCombined {
+            port,
+            control: _,
+            pointers,
+        } => Effect::ToPort {
+            port,
+            change: Change::Combined { pointers },
+        },
         Message::OutputFeedback => Effect::Feedback,
         _ => Effect::Nothing,
     }

@@ -56,6 +56,10 @@ nothing-told experiment (Message'.GotoAbsolutePosition p s a v w e u) t = absurd
 nothing-told experiment (Message'.GotoAbsolutePositions p s a b v w e u) t = absurd (miss others 35 tt t)
 nothing-told experiment (Message'.PresetEncoders p s l r) t = absurd (miss others 36 tt t)
 nothing-told experiment Message'.OutputFeedback t = absurd (miss others 37 tt t)
+nothing-told experiment (Message'.CombinedSetup p c) t = absurd (miss others 38 tt t)
+nothing-told experiment (Message'.ModeDatasets p x) t = absurd (miss others 39 tt t)
+nothing-told experiment (Message'.PortValueCombined p w) t = absurd (miss others 40 tt t)
+nothing-told experiment (Message'.InputFormatCombined p c w) t = absurd (miss others 41 tt t)
 
 enum-known-m : tie.Need-enum-known-m
 enum-known-m c = search needs
@@ -128,6 +132,18 @@ enum-known-m-22 c = search needs
 
 enum-known-m-23 : tie.Need-enum-known-m-23
 enum-known-m-23 c = search needs
+
+enum-known-m-24 : tie.Need-enum-known-m-24
+enum-known-m-24 c = search needs
+
+enum-known-m-25 : tie.Need-enum-known-m-25
+enum-known-m-25 c = search needs
+
+enum-known-m-26 : tie.Need-enum-known-m-26
+enum-known-m-26 c = search needs
+
+enum-known-m-27 : tie.Need-enum-known-m-27
+enum-known-m-27 c = search needs
 
 enum-told : tie.Need-enum-told
 enum-told c = search needs
@@ -226,10 +242,26 @@ returns-23 c = sym (ap (effectOf (c .before .before .before .args .experiment)) 
 
 returns-24 : tie.Need-returns-24
 unfolding effectOf
-returns-24 c = sym (ap (effectOf (c .before .before .args .experiment)) (c .enum-told .given .1))
+returns-24 c = sym (ap (effectOf (c .before .before .before .args .experiment)) (c .before .m24 .given .1))
 
 returns-25 : tie.Need-returns-25
-returns-25 c = sym (nothing-told (c .before .args .experiment) (c .before .args .m) (c .match .keys25))
+unfolding effectOf
+returns-25 c = sym (ap (effectOf (c .before .before .before .args .experiment)) (c .before .m25 .given .1))
+
+returns-26 : tie.Need-returns-26
+unfolding effectOf
+returns-26 c = sym (ap (effectOf (c .before .before .before .args .experiment)) (c .before .m26 .given .1))
+
+returns-27 : tie.Need-returns-27
+unfolding effectOf
+returns-27 c = sym (ap (effectOf (c .before .before .before .args .experiment)) (c .before .m27 .given .1))
+
+returns-28 : tie.Need-returns-28
+unfolding effectOf
+returns-28 c = sym (ap (effectOf (c .before .before .args .experiment)) (c .enum-told .given .1))
+
+returns-29 : tie.Need-returns-29
+returns-29 c = sym (nothing-told (c .before .args .experiment) (c .before .args .m) (c .match .keys29))
 
 pub effect-of-spec : {M : Type 1} → statement M
 effect-of-spec =
@@ -259,6 +291,10 @@ effect-of-spec =
     enum-known-m-21
     enum-known-m-22
     enum-known-m-23
+    enum-known-m-24
+    enum-known-m-25
+    enum-known-m-26
+    enum-known-m-27
     enum-told
     returns
     returns-2
@@ -284,4 +320,8 @@ effect-of-spec =
     returns-22
     returns-23
     returns-24
-    returns-25)
+    returns-25
+    returns-26
+    returns-27
+    returns-28
+    returns-29)
