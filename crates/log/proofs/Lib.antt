@@ -1,6 +1,8 @@
 pub mod AfterRecord
 pub mod Cutting
+pub mod Gathered
 pub mod Datasets
+pub mod Plans
 pub mod Decimals
 pub mod Endings
 pub mod Examples

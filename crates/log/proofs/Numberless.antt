@@ -13,13 +13,15 @@ use Rattle.rules.specs.Dataset.{Dataset}
 use Rattle.rules.specs.Datasets.{allDatasets}
 use Rattle.rules.specs.Laws.{NoNumbers, datasetExperiment}
 use Rattle.rules.specs.Offer.{Entry, offerByCells, cellsAfter, datasetByCells}
+use Rattle.rules.specs.Effect.{Event, event}
 use Rattle.rules.specs.declared.Effect.{Effect}
 use Rattle.rules.specs.declared.Effect.the-variants as Effect'
 use Rattle.rules.proofs.Experiments.{empty-no-numbers, step-keeps-no-numbers, values-no-numbers}
 use Rattle.rules.proofs.Laws.{empty-sound}
 use Rattle.rules.proofs.SettingsFit.{either-way}
 use Rattle.log.specs.Record.{recordSize, experimentIn, entryOf, malformed}
-use Rattle.log.specs.Line.{Line, refused, withDatasets, valueLine, acceptedLine, answerLine, entryLine, recordLine, cellsAfterRecord}
+use Rattle.log.specs.Line as Line'
+use Rattle.log.specs.Line.{Line, refused, withDatasets, valueLine, withPointers, acceptedLine, answerLine, entryLine, recordLine, cellsAfterRecord}
 use Rattle.log.specs.Output.{linesOf, records, lastLine, allLines}
 use Rattle.log.specs.Laws.{NumbersZero, lineExperiment, ValuesZero, NumberlessLog}
 use Rattle.log.proofs.AfterRecord.{entry-fits, record-keeps-sound}
@@ -30,6 +32,12 @@ with-zero : (a : Answer Dataset) → datasetExperiment a ≡ 0 → (all : Answer
 with-zero a e (Answer.refused n place) = refl
 with-zero (Answer.refused n place) e (Answer.accepted ds) = refl
 with-zero (Answer.accepted d) e (Answer.accepted ds) = e
+
+pointers-zero : (p : ℕ) (l : Line) → lineExperiment l ≡ 0 → lineExperiment (withPointers p l) ≡ 0
+pointers-zero p (refused n) e = refl
+pointers-zero p Line'.accepted e = refl
+pointers-zero p (Line'.values port mode state experiment ns) e = e
+pointers-zero p (Line'.combinedValues port state experiment q ns) e = e
 
 accepted-zero : (dataset : ℕ → Answer Dataset) → datasetExperiment (dataset 0) ≡ 0 → (x : Effect) → lineExperiment (acceptedLine dataset x) ≡ 0
 unfolding valueLine
@@ -44,10 +52,11 @@ accepted-zero dataset e (Effect'.Connect a b) = refl
 accepted-zero dataset e Effect'.Empty = refl
 accepted-zero dataset e (Effect'.ToVirtual port) = refl
 accepted-zero dataset e Effect'.Feedback = refl
+accepted-zero dataset e (Effect'.CombinedValue port p) = pointers-zero p (valueLine dataset) (with-zero (dataset 0) e (allDatasets dataset))
 
-answer-zero : (dataset : ℕ → Answer Dataset) → datasetExperiment (dataset 0) ≡ 0 → (a : Answer Effect) → lineExperiment (answerLine dataset a) ≡ 0
+answer-zero : (dataset : ℕ → Answer Dataset) → datasetExperiment (dataset 0) ≡ 0 → (a : Answer Event) → lineExperiment (answerLine dataset a) ≡ 0
 answer-zero dataset e (Answer.refused n place) = refl
-answer-zero dataset e (Answer.accepted x) = accepted-zero dataset e x
+answer-zero dataset e (Answer.accepted (event x opens)) = accepted-zero dataset e x
 
 -- ---- a record
 

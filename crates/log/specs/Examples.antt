@@ -7,7 +7,7 @@ use lib.IntN.{pos, negℤ}
 use lib.ListN.{length, replicate}
 use Rattle.log.specs.Decimal.{signedDecimal}
 use Rattle.log.specs.Record.{experimentIn}
-use Rattle.log.specs.Line.{values, numbersOf}
+use Rattle.log.specs.Line.{values, combinedValues, numbersOf}
 use Rattle.log.specs.Output.{output}
 
 -- a record at time 0, with its direction, the byte after it, which is 0 in a good record, and the two of its experiment number
@@ -147,6 +147,39 @@ motorLines =
 abbrev pub MotorRecords : Type 0
 MotorRecords = output 128 motorRecords ≡ motorLines
 
+-- a colour sensor: two formats, a list asked for in experiment 9, its 48 and a 46; a new list and a 46 of one value; a 45; a pointer that
+-- the 48 hasn't
+abbrev combinedRecords : List ℕ
+combinedRecords =
+    recordOf 1 (0x0F ∷ 0x00 ∷ 0x04 ∷ 0x00 ∷ 0x01 ∷ 0x3D ∷ 0x00 ∷ 0x00 ∷ 0x00 ∷ 0x00 ∷ 0x10 ∷ 0x00 ∷ 0x00 ∷ 0x00 ∷ 0x10 ∷ [])
+    ++ recordOf 1 (0x0A ∷ 0x00 ∷ 0x44 ∷ 0x00 ∷ 0x01 ∷ 0x80 ∷ 0x01 ∷ 0x00 ∷ 0x04 ∷ 0x00 ∷ [])
+    ++ recordOf 1 (0x0A ∷ 0x00 ∷ 0x44 ∷ 0x00 ∷ 0x02 ∷ 0x80 ∷ 0x02 ∷ 0x01 ∷ 0x04 ∷ 0x00 ∷ [])
+    ++ recordWith 0 0 9 0 (0x08 ∷ 0x00 ∷ 0x42 ∷ 0x00 ∷ 0x01 ∷ 0x00 ∷ 0x10 ∷ 0x21 ∷ [])
+    ++ recordOf 1 (0x07 ∷ 0x00 ∷ 0x48 ∷ 0x00 ∷ 0x00 ∷ 0x03 ∷ 0x00 ∷ [])
+    ++ recordOf 1 (0x09 ∷ 0x00 ∷ 0x46 ∷ 0x00 ∷ 0x03 ∷ 0x00 ∷ 0x80 ∷ 0xFE ∷ 0xFF ∷ [])
+    ++ recordOf 0 (0x07 ∷ 0x00 ∷ 0x42 ∷ 0x00 ∷ 0x01 ∷ 0x00 ∷ 0x21 ∷ [])
+    ++ recordOf 1 (0x08 ∷ 0x00 ∷ 0x46 ∷ 0x00 ∷ 0x02 ∷ 0x00 ∷ 0xFE ∷ 0xFF ∷ [])
+    ++ recordOf 1 (0x05 ∷ 0x00 ∷ 0x45 ∷ 0x00 ∷ 0x80 ∷ [])
+    ++ recordOf 1 (0x08 ∷ 0x00 ∷ 0x46 ∷ 0x00 ∷ 0x04 ∷ 0x00 ∷ 0xFE ∷ 0xFF ∷ [])
+
+-- "1 0", "2 0", "3 0", "4 0", "5 0", "6 0 0 2 9 3 -128 -2", "7 0", "8 0 0 1 0 2 -2", "9 14", "10 21", "total 10 refused 2"
+abbrev combinedLines : List ℕ
+combinedLines =
+    49 ∷ 32 ∷ 48 ∷ 10
+    ∷ 50 ∷ 32 ∷ 48 ∷ 10
+    ∷ 51 ∷ 32 ∷ 48 ∷ 10
+    ∷ 52 ∷ 32 ∷ 48 ∷ 10
+    ∷ 53 ∷ 32 ∷ 48 ∷ 10
+    ∷ 54 ∷ 32 ∷ 48 ∷ 32 ∷ 48 ∷ 32 ∷ 50 ∷ 32 ∷ 57 ∷ 32 ∷ 51 ∷ 32 ∷ 45 ∷ 49 ∷ 50 ∷ 56 ∷ 32 ∷ 45 ∷ 50 ∷ 10
+    ∷ 55 ∷ 32 ∷ 48 ∷ 10
+    ∷ 56 ∷ 32 ∷ 48 ∷ 32 ∷ 48 ∷ 32 ∷ 49 ∷ 32 ∷ 48 ∷ 32 ∷ 50 ∷ 32 ∷ 45 ∷ 50 ∷ 10
+    ∷ 57 ∷ 32 ∷ 49 ∷ 52 ∷ 10
+    ∷ 49 ∷ 48 ∷ 32 ∷ 50 ∷ 49 ∷ 10
+    ∷ 116 ∷ 111 ∷ 116 ∷ 97 ∷ 108 ∷ 32 ∷ 49 ∷ 48 ∷ 32 ∷ 114 ∷ 101 ∷ 102 ∷ 117 ∷ 115 ∷ 101 ∷ 100 ∷ 32 ∷ 50 ∷ 10 ∷ []
+
+abbrev pub CombinedRecords : Type 0
+CombinedRecords = output 128 combinedRecords ≡ combinedLines
+
 -- the longest number of 32 bits, "-2147483648"; 0 has no sign
 abbrev pub SignedText : Type 0
 SignedText = (signedDecimal (negℤ (pos 2147483648)) ≡ 45 ∷ 50 ∷ 49 ∷ 52 ∷ 55 ∷ 52 ∷ 56 ∷ 51 ∷ 54 ∷ 52 ∷ 56 ∷ []) × (signedDecimal (negℤ (pos 0)) ≡ 48 ∷ [])
@@ -154,6 +187,10 @@ SignedText = (signedDecimal (negℤ (pos 2147483648)) ≡ 45 ∷ 50 ∷ 49 ∷ 5
 -- port 7 in mode 1 and state 2, experiment 9, with two datasets: "0 7 1 2 9 5 -258"
 abbrev pub ValuesLine : Type 0
 ValuesLine = numbersOf (values 7 1 2 9 (pos 5 ∷ negℤ (pos 258) ∷ [])) ≡ pos 0 ∷ pos 7 ∷ pos 1 ∷ pos 2 ∷ pos 9 ∷ pos 5 ∷ negℤ (pos 258) ∷ []
+
+-- port 7 in state 2, experiment 9, by pointers 3, with two values: "0 7 2 9 3 5 -258"
+abbrev pub CombinedLine : Type 0
+CombinedLine = numbersOf (combinedValues 7 2 9 3 (pos 5 ∷ negℤ (pos 258) ∷ [])) ≡ pos 0 ∷ pos 7 ∷ pos 2 ∷ pos 9 ∷ pos 3 ∷ pos 5 ∷ negℤ (pos 258) ∷ []
 
 -- "total 0 refused 0"
 abbrev pub EmptyInput : Type 0

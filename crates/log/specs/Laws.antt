@@ -5,7 +5,7 @@ use mathlib.Core.List.{List, [], _∷_, _++_}
 use lib.ListN.{length, take, drop}
 use Rattle.protocol.specs.Number.{Bytes}
 use Rattle.log.specs.Record.{recordSize, experimentIn}
-use Rattle.log.specs.Line.{Line, refused, accepted, values}
+use Rattle.log.specs.Line.{Line, refused, accepted, values, combinedValues}
 use Rattle.log.specs.Output.{records, allLines, output}
 use Rattle.log.specs.Cutting.{Run, Step, start, worked, printed, through, textThrough, ending, wholeInput}
 use Rattle.log.specs.Pieces.{afterPieces, piecesText, joined}
@@ -32,6 +32,7 @@ abbrev pub lineExperiment : Line → ℕ
 lineExperiment (refused n) = 0
 lineExperiment accepted = 0
 lineExperiment (values port mode state experiment ns) = experiment
+lineExperiment (combinedValues port state experiment p ns) = experiment
 
 abbrev pub ValuesZero : List Line → Type 0
 ValuesZero [] = Unit {0}

@@ -1,4 +1,5 @@
 pub mod Dataset
+pub mod Plan
 pub mod Decimal
 pub mod OverwriteIfRoom
 pub mod Record

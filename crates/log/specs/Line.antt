@@ -4,6 +4,7 @@ use mathlib.Core.Bool.{cond}
 use mathlib.Core.List.{List, [], _∷_}
 use lib.Ieee.{binary32, toBits}
 use lib.IntN.{ℤ, pos}
+use Rattle.rules.specs.Effect.{Event, event}
 use Rattle.rules.specs.declared.Effect.{Effect}
 use Rattle.rules.specs.declared.Effect.the-variants as Effect'
 use Rattle.rules.specs.Answer as Answer
@@ -18,6 +19,8 @@ pub data Line : Type 0 where
   accepted : Line
   -- an accepted 45: port, mode, state, experiment number, datasets (floats as their 32 bits)
   values : ℕ → ℕ → ℕ → ℕ → List ℤ → Line
+  -- an accepted 46: port, state, experiment number, pointer word, values
+  combinedValues : ℕ → ℕ → ℕ → ℕ → List ℤ → Line
 
 -- ---- the datasets of a value
 
@@ -39,6 +42,13 @@ withDatasets (Answer.accepted d) (Answer.accepted ds) = values (d .port) (d .mod
 unfoldable pub valueLine : (ℕ → Answer Dataset) → Line
 valueLine dataset = withDatasets (dataset 0) (allDatasets dataset)
 
+-- of a 46 with its pointer word, and no mode
+abbrev pub withPointers : ℕ → Line → Line
+withPointers p (refused n) = refused n
+withPointers p accepted = accepted
+withPointers p (values port mode state experiment ns) = combinedValues port state experiment p ns
+withPointers p (combinedValues port state experiment q ns) = combinedValues port state experiment p ns
+
 -- ---- the line of a record
 
 abbrev pub acceptedLine : (ℕ → Answer Dataset) → Effect → Line
@@ -53,10 +63,11 @@ acceptedLine dataset (Effect'.Connect a b) = accepted
 acceptedLine dataset Effect'.Empty = accepted
 acceptedLine dataset (Effect'.ToVirtual port) = accepted
 acceptedLine dataset Effect'.Feedback = accepted
+acceptedLine dataset (Effect'.CombinedValue port p) = withPointers p (valueLine dataset)
 
-abbrev pub answerLine : (ℕ → Answer Dataset) → Answer Effect → Line
+abbrev pub answerLine : (ℕ → Answer Dataset) → Answer Event → Line
 answerLine dataset (Answer.refused n place) = refused n
-answerLine dataset (Answer.accepted e) = acceptedLine dataset e
+answerLine dataset (Answer.accepted (event e opens)) = acceptedLine dataset e
 
 abbrev pub entryLine : List ℕ → Entry → Line
 entryLine cells e = answerLine (datasetByCells cells (e .way) (e .bytes)) (offerByCells cells e)
@@ -74,8 +85,10 @@ abbrev pub refusalOf : Line → ℕ
 refusalOf (refused n) = n
 refusalOf accepted = 0
 refusalOf (values port mode state experiment ns) = 0
+refusalOf (combinedValues port state experiment p ns) = 0
 
 abbrev pub numbersOf : Line → List ℤ
 numbersOf (refused n) = pos n ∷ []
 numbersOf accepted = pos 0 ∷ []
 numbersOf (values port mode state experiment ns) = pos 0 ∷ pos port ∷ pos mode ∷ pos state ∷ pos experiment ∷ ns
+numbersOf (combinedValues port state experiment p ns) = pos 0 ∷ pos port ∷ pos state ∷ pos experiment ∷ pos p ∷ ns
