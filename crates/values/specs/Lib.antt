@@ -1,2 +1,3 @@
 pub mod DatasetAnswer
+pub mod PlanRest
 pub mod ValueMessage

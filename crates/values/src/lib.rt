@@ -4,4 +4,5 @@ pub mod datasets;
 pub mod experiment;
 pub mod format;
 pub mod number;
+pub mod plan;
 pub mod size;
