@@ -1,12 +1,15 @@
 -- Stores in the cells of a table, and what the functions make of any cells.
-use Prim.Native.Nat.{ℕ, _+_, _*_}
+use Prim.Native.Nat.{ℕ, suc, _+_, _*_, _^_}
 use mathlib.Core.Bool.{cond, _&&_}
 use mathlib.Core.List.{List, [], _∷_, _++_}
-use mathlib.Core.Option.{Option}
-use lib.Dec.{eqb, ltb}
+use mathlib.Core.Option.{Option, none, some}
+use lib.Dec.{eqb, leb, ltb}
 use lib.ListN.{length, set, take, drop, replicate}
-use Rattle.rules.specs.Layout.{stride, places, wiringIndex, firstIndex, stateIndex, tableSize, askedIndex, experimentIndex}
-use Rattle.rules.specs.Cells.{setupAt, emptyCells}
+use Rattle.rules.specs.Layout.{stride, places, wiringIndex, firstIndex, stateIndex, tableSize, askedIndex, experimentIndex, answeredIndex, listIndex, takenIndex}
+use Rattle.protocol.specs.Form.{mostEntries}
+use Rattle.rules.specs.Facts.{Asking, askedSingle, askedCombined}
+use Rattle.rules.specs.Cells as Cells
+use Rattle.rules.specs.Cells.{combinedCell, listCells, emptyCells}
 use Rattle.rules.specs.declared.Setup.{Setup}
 use Rattle.soundness.specs.Place.{cellOf}
 
@@ -23,6 +26,27 @@ stored cells place (put index v ∷ s) = stored (set cells (stride * place + ind
 abbrev pub setupStores : ℕ → Setup → ℕ → List Store
 setupStores index setup state = put index (setup .mode + 1) ∷ put (index + 1) (setup .delta) ∷ put (index + 2) (setup .notify) ∷ put stateIndex state ∷ []
 
+-- numbers put into the cells from an index on
+abbrev pub cellStores : ℕ → List ℕ → List Store
+cellStores index [] = []
+cellStores index (v ∷ vs) = put index v ∷ cellStores (suc index) vs
+
+-- a 47: no list that was taken over, what was answered, and the state
+abbrev pub answeredStores : Setup → ℕ → List Store
+answeredStores setup state = cellStores takenIndex (replicate (suc mostEntries) 0) ++ setupStores answeredIndex setup state
+
+-- a list: itself, its experiment number, that it is asked for, and no answer since
+abbrev pub listedStores : List ℕ → ℕ → List Store
+listedStores entries experiment =
+    cellStores listIndex (listCells (some entries))
+    ++ (put experimentIndex experiment ∷ put askedIndex combinedCell ∷ put (askedIndex + 1) 0 ∷ put (askedIndex + 2) 0 ∷ put stateIndex 1 ∷ [])
+
+-- a 48: the cells of the list that it takes over, its pointers, and the state
+abbrev pub takenStores : ℕ → ℕ → List ℕ → List Store
+takenStores pointers state taken =
+    cellStores takenIndex taken
+    ++ (put answeredIndex combinedCell ∷ put (answeredIndex + 1) pointers ∷ put (answeredIndex + 2) 0 ∷ put stateIndex state ∷ [])
+
 -- a 41: its experiment number, what it asks for, and no answer since
 abbrev pub askedStores : Setup → ℕ → List Store
 askedStores setup experiment = put experimentIndex experiment ∷ setupStores askedIndex setup 1
@@ -32,8 +56,22 @@ unfoldable pub zeroed : List ℕ → ℕ → ℕ → List ℕ
 zeroed cells from count = take from cells ++ replicate count 0 ++ drop (from + count) cells
 
 -- what was asked of the port at a place
-abbrev pub askedAt : List ℕ → ℕ → Option Setup
-askedAt cells place = setupAt (cellOf cells place askedIndex) (cellOf cells place (askedIndex + 1)) (cellOf cells place (askedIndex + 2))
+abbrev pub askedAt : List ℕ → ℕ → Option Asking
+askedAt cells place = Cells.askedAt (cellOf cells place askedIndex) (cellOf cells place (askedIndex + 1)) (cellOf cells place (askedIndex + 2))
+
+-- the cells of the list that it keeps
+abbrev pub keptCells : List ℕ → ℕ → List ℕ
+keptCells cells place = take (suc mostEntries) (drop (stride * place + listIndex) cells)
+
+-- the state after a 48, by the number of entries of that list
+abbrev pub combinedStateBy : Option Asking → ℕ → ℕ → ℕ
+combinedStateBy none p count = 0
+combinedStateBy (some (askedSingle s)) p count = 3
+combinedStateBy (some askedCombined) p count = cond (eqb (suc p) (2 ^ count)) 2 3
+
+-- a list of no more entries than there may be is put; one of more changes nothing
+abbrev pub listedAt : List ℕ → ℕ → List ℕ → ℕ → List ℕ
+listedAt cells place entries experiment = cond (leb (length entries) mostEntries) (stored cells place (listedStores entries experiment)) cells
 
 -- a place of a table is changed; nothing is where the cells are no table's, or the place is none of its places
 unfoldable pub ifPlace : List ℕ → ℕ → List ℕ → List ℕ

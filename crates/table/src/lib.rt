@@ -1,6 +1,7 @@
 // The port table of one hub in `TABLE_SIZE` cells that the caller lends, and values read by it. Any other
 // slice of cells is refused with 9, and stays as it is.
 pub mod block;
+mod combined;
 mod datasets;
 mod judge;
 mod lookup;
@@ -9,10 +10,10 @@ mod step;
 
 use crate::block::Block;
 use crate::block::block_sound;
+use crate::combined::MOST_VALUES;
 use crate::datasets::value_sound;
 use crate::offering::Outcome;
 use crate::offering::offer_sound;
-use codec::tail;
 use protocol::Way;
 use rules::layout::TABLE_SIZE;
 use soundness::is_sound;
@@ -23,7 +24,8 @@ use values::datasets::handed_out;
 ghost use mathlib.Core.Path.{_≡_};
 ghost use mathlib.Core.Bool.{true};
 ghost use Prim.Native.Nat.{ℕ};
-ghost use lib.ListN.{drop, length};
+ghost use lib.ListN.{length};
+ghost use Rattle.protocol.specs.Form.{mostDatasets};
 ghost use Rattle.rules.specs.Answer.{outcome};
 ghost use Rattle.rules.specs.Offer.{cellsAfter, datasetByCells, offerByCells};
 ghost use Rattle.stores.specs.Stores.{emptied};
@@ -61,13 +63,13 @@ pub fn offer(table: &mut [u32], message: &[u8], way: Way, experiment: u16) -> Ou
     }
 }
 
-// What the datasets of a message are read by, as the table stands: those of its bytes from the fourth
-// on.
-pub fn value(table: &[u32], message: &[u8], way: Way) -> ValueMessage
-    ensures { λ r. ⌜ ((number : ℕ) → datasetBy r (drop 4 (now (message .entry))) number ≡ datasetByCells (now (table .entry)) way (now (message .entry)) number) × (valueFits r ≡ true) ⌝ }
+// What the datasets of a message are read by, as the table stands. A plan of 16 bytes is lent, in which a 0x46 has its plan
+// afterwards.
+pub fn value(table: &[u32], message: &[u8], way: Way, plan: &mut [u8]) -> ValueMessage
+    ensures { λ r. ⌜ length (now (plan .entry)) ≡ mostDatasets → ((number : ℕ) → datasetBy r (now (plan .exit)) (now (message .entry)) number ≡ datasetByCells (now (table .entry)) way (now (message .entry)) number) × (valueFits r ≡ true) × (length (now (plan .exit)) ≡ mostDatasets) ⌝ }
 {
-    if is_sound(table) {
-        return value_sound(table, message, way);
+    if plan.len() == MOST_VALUES && is_sound(table) {
+        return value_sound(table, message, way, plan);
     }
     ValueMessage::Refused {
         number: 9,
@@ -79,7 +81,9 @@ pub fn value(table: &[u32], message: &[u8], way: Way) -> ValueMessage
 pub fn dataset(table: &[u32], message: &[u8], way: Way, number: usize) -> Dataset
     ensures { λ r. ⌜ DatasetAnswer.answerOf r ≡ datasetByCells (now (table .entry)) way (now (message .entry)) number ⌝ }
 {
-    handed_out(value(table, message, way), tail(message, 4), number)
+    let mut plan = [0u8; MOST_VALUES];
+    let value = value(table, message, way, &mut plan);
+    handed_out(value, &plan, message, number)
 }
 
 // Works through a block of a log: as many whole records as there is room for, each a line of text in

@@ -15,6 +15,7 @@ ghost use mathlib.Core.Bool.{true};
 ghost use Rattle.rules.specs.Answer.{outcome};
 ghost use Rattle.rules.specs.Cells.{cellsOf, sound, tableAt};
 ghost use Rattle.rules.specs.Offer.{appliedTo, cellsAfter, offerByCells};
+ghost use Rattle.rules.specs.OpenBytes.{opensIn};
 ghost use Rattle.rules.specs.Ranges.{effectFits};
 ghost use Rattle.rules.specs.Table.{apply};
 ghost use Rattle.table.specs.Judged.{judgedBy, refusalBy};
@@ -28,11 +29,11 @@ pub enum Outcome {
 
 // What an accepted message changes.
 fn follow(table: &mut [u32], e: Effect, message: &[u8])
-    requires { ⌜ (sound (now table) ≡ true) × (effectFits e ≡ true) × (refusalBy (now table) e (now message) ≡ 0) ⌝ }
-    ensures { λ _. ⌜ now (table .exit) ≡ cellsOf (apply e (tableAt (now (table .entry)))) ⌝ }
+    requires { ⌜ (sound (now table) ≡ true) × (effectFits e (opensIn e (now message)) ≡ true) × (refusalBy (now table) e (now message) ≡ 0) ⌝ }
+    ensures { λ _. ⌜ now (table .exit) ≡ cellsOf (apply e (opensIn e (now (message .entry))) (tableAt (now (table .entry)))) ⌝ }
 {
     match e {
-        Effect::ToPort { port, change } => tell(table, port, change),
+        Effect::ToPort { port, change } => tell(table, port, change, message),
         Effect::Attach { port, device } => attach(table, port, device),
         Effect::AttachVirtual {
             port,
@@ -48,7 +49,7 @@ fn follow(table: &mut [u32], e: Effect, message: &[u8])
 
 // A message that reading accepts, by what it is to the table and its bytes.
 pub(crate) fn offer_effect(table: &mut [u32], e: Effect, message: &[u8]) -> Outcome
-    requires { ⌜ (sound (now table) ≡ true) × (effectFits e ≡ true) ⌝ }
+    requires { ⌜ (sound (now table) ≡ true) × (effectFits e (opensIn e (now message)) ≡ true) ⌝ }
     ensures { λ r. ⌜ (answerOf r ≡ outcome (judgedBy (now (table .entry)) e (now (message .entry)))) × (now (table .exit) ≡ appliedTo (now (table .entry)) (judgedBy (now (table .entry)) e (now (message .entry)))) ⌝ }
 {
     let refusal = judged(table, e, message);
