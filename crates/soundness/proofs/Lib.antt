@@ -1,6 +1,8 @@
+pub mod Answers
 pub mod Bounds
 pub mod ExactCells
 pub mod FactsFit
+pub mod Lists
 pub mod Loops
 pub mod Places
 pub mod Records
