@@ -9,7 +9,7 @@ use mathlib.Core.Option.{Option, none, some}
 use mathlib.Core.Logic.{⊎-elim}
 use borrow.Author.Tests.{eqb-true, eqb-false, eq-eqb, ne-eqb, lt-ltb, ltb-true, not-true}
 use lib.Dec.{eqb, leb, ltb, leb·suc-suc, eqb·suc-zero, eqb·suc-suc}
-use lib.ListN.{length, take, replicate}
+use lib.ListN.{length, take, drop, replicate}
 use lib.Pow.{pow-mono}
 use Rattle.protocol.specs.Form.{lastMode, lastNotify, mostEntries}
 use Rattle.protocol.proofs.Tests.{which, and-left, and-right}
@@ -106,12 +106,16 @@ answered-single place size other =
 -- ---- what was answered by a 48
 
 -- pointers within a list of at most sixteen are a u16's
+pub pointers-small : (p count : ℕ) → count ≤ mostEntries → pointersFit p count ≡ true → p < 65536
+unfolding pointersFit
+pointers-small p count few e = lt-of-lt-of-le (ltb-true p (2 ^ count) (and-right (not (eqb p 0)) (ltb p (2 ^ count)) e)) (pow-mono few)
+
 fit-small : (p count : ℕ) → count ≤ mostEntries → (ltb p 65536 && pointersFit p count) ≡ pointersFit p count
-fit-small p count few = ⊎-elim within (λ (k : pointersFit p count ≡ false). ap (λ (b : Bool). ltb p 65536 && b) k ∙ and-false (ltb p 65536) ∙ sym k) (which (pointersFit p count))
-  where
-    within : pointersFit p count ≡ true → (ltb p 65536 && pointersFit p count) ≡ pointersFit p count
-    unfolding pointersFit
-    within k = ap (λ (b : Bool). b && pointersFit p count) (lt-ltb p 65536 (lt-of-lt-of-le (ltb-true p (2 ^ count) (and-right (not (eqb p 0)) (ltb p (2 ^ count)) k)) (pow-mono few)))
+fit-small p count few =
+    ⊎-elim
+    (λ (k : pointersFit p count ≡ true). ap (λ (b : Bool). b && pointersFit p count) (lt-ltb p 65536 (pointers-small p count few k)))
+    (λ (k : pointersFit p count ≡ false). ap (λ (b : Bool). ltb p 65536 && b) k ∙ and-false (ltb p 65536) ∙ sym k)
+    (which (pointersFit p count))
 
 module _ (place : List ℕ) (size : length place ≡ stride) where
   abbrev pointers : ℕ
@@ -120,29 +124,79 @@ module _ (place : List ℕ) (size : length place ≡ stride) where
   abbrev notify : Bool
   notify = eqb (cellAt place (answeredIndex + 2)) 0
 
+  abbrev kept : Bool
+  kept = not (eqb (cellAt place listIndex) 0)
+
   abbrev count : ℕ
   count = cellAt place takenIndex
 
   abbrev taken : List ℕ
   taken = entriesFrom place takenIndex
 
+  abbrev exact : Bool
+  exact = sameList (cellsOfList place takenIndex) (listCells (some taken))
+
   -- what a 48's cells have to be
   abbrev by-rules : Bool
-  by-rules = notify && sameList (cellsOfList place takenIndex) (listCells (some taken)) && (not (eqb (cellAt place listIndex) 0) && listFits taken && pointersFit pointers (length taken))
+  by-rules = notify && exact && (kept && listFits taken && pointersFit pointers (length taken))
 
-  combined-rules : soundCombined place ≡ by-rules
+  no-list : count ≡ 0 → listFits taken ≡ false
+  unfolding listFits
+  no-list e = ap (λ (n : ℕ). listFits (take n (take mostEntries (drop (suc takenIndex) place)))) e
+
+  with-none : eqb count 0 ≡ true → soundCombined place ≡ by-rules
   unfolding soundCombined
-  combined-rules = ⊎-elim without with-list (which (eqb count 0))
+  with-none e =
+      ap (λ (b : Bool). notify && kept && not b && soundList place takenIndex && (ltb pointers 65536 && pointersFit pointers count)) e
+      ∙ ap (λ (b : Bool). b && soundList place takenIndex && (ltb pointers 65536 && pointersFit pointers count)) (and-false (notify && kept))
+      ∙ sym (ap (λ (b : Bool). notify && exact && (kept && b && pointersFit pointers (length taken))) (no-list (eqb-true count 0 e))
+      ∙ ap (λ (b : Bool). notify && exact && (b && pointersFit pointers (length taken))) (and-false kept)
+      ∙ and-false (notify && exact))
+
+  with-list : eqb count 0 ≡ false → soundCombined place ≡ by-rules
+  unfolding soundCombined soundList exactList
+  with-list e =
+      let fits : Bool = listFits taken in
+      let is : soundList place takenIndex ≡ (exact && fits) = ap (λ (b : Bool). sameList (cellsOfList place takenIndex) (listCells (cond b none (some taken))) && keptFits (cond b none (some taken))) e in
+      let front : Bool = notify && kept && true && (exact && fits) in
+      (λ i. notify && kept && not (e i) && is i && (ltb pointers 65536 && pointersFit pointers count))
+      ∙ and-when front (λ k.
+      let few : count ≤ mostEntries = list-few place takenIndex size (omega arith) (is ∙ and-right (notify && kept && true) (exact && fits) k) in
+      fit-small pointers count few ∙ ap (pointersFit pointers) (sym (entries-count place takenIndex size (omega arith) few)))
+      ∙ grouped notify kept exact fits (pointersFit pointers (length taken))
     where
-      kept : Bool
-      kept = not (eqb (cellAt place listIndex) 0)
+      grouped : (n k x f p : Bool) → (n && k && true && (x && f) && p) ≡ (n && x && (k && f && p))
+      grouped true true x f p = and-assoc x f p
+      grouped true false x f p = sym (and-false x)
+      grouped false k x f p = refl
 
-      exact : Bool
-      exact = sameList (cellsOfList place takenIndex) (listCells (some taken))
+  pub answered-combined : cellAt place answeredIndex ≡ combinedCell → soundCombined place ≡ soundAnswered place
+  unfolding soundAnswered exactAnswered exactTaken
+  answered-combined e =
+      let n : ℕ = cellAt place (answeredIndex + 2) in
+      ⊎-elim with-none with-list (which (eqb count 0))
+      ∙ sym (ap (λ (m : ℕ). let x = answeredAt m pointers n taken in sameList (m ∷ pointers ∷ n ∷ []) (answeredCells x) && sameList (cellsOfList place takenIndex) (listCells (takenBy x)) && answeredFits x (listIn place)) e
+      ∙ (λ i. eq-eqb pointers pointers refl i && and-true notify i && exact && (not (listed-by place listIndex i) && listFits taken && pointersFit pointers (length taken))))
 
-      without : eqb count 0 ≡ true → soundCombined place ≡ by-rules
-      without e = ?
+  -- the tests of a 48's cells, one by one
+  pub record Combined : Type 0 where
+    pub notified : cellAt place (answeredIndex + 2) ≡ 0
+    pub listed : eqb (cellAt place listIndex) 0 ≡ false
+    pub took : eqb count 0 ≡ false
+    pub list : soundList place takenIndex ≡ true
+    pub small : pointers < 65536
+    pub within : pointersFit pointers count ≡ true
 
-      with-list : eqb count 0 ≡ false → soundCombined place ≡ by-rules
-      unfolding soundList exactList
-      with-list e = ?
+  pub combined-parts : cellAt place answeredIndex ≡ combinedCell → soundAnswered place ≡ true → Combined
+  unfolding soundCombined
+  combined-parts e s =
+      let fit : Bool = ltb pointers 65536 && pointersFit pointers count in
+      let k = five-passed notify kept (not (eqb count 0)) (soundList place takenIndex) fit (answered-combined e ∙ s) in
+      record {
+        notified = eqb-true (cellAt place (answeredIndex + 2)) 0 (k .0);
+        listed = not-true (eqb (cellAt place listIndex) 0) (k .1);
+        took = not-true (eqb count 0) (k .2);
+        list = k .3;
+        small = ltb-true pointers 65536 (and-left (ltb pointers 65536) (pointersFit pointers count) (k .4));
+        within = and-right (ltb pointers 65536) (pointersFit pointers count) (k .4);
+      }

@@ -8,4 +8,5 @@ pub mod Places
 pub mod Records
 pub mod Rows
 pub mod Sound
+pub mod States
 pub mod WiringFits
