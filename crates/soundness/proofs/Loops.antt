@@ -2,7 +2,7 @@
 use Prim.Native.Nat.{ℕ, suc, _+_, _≤_, _<_}
 use native.Mathlib.Numerals.{add-one}
 use mathlib.Core.Path.{_≡_, refl, sym, _∙_, ap}
-use mathlib.Core.Bool.{Bool, true, false, _&&_, and-true, and-assoc}
+use mathlib.Core.Bool.{Bool, true, false, cond, _&&_, and-true, and-assoc}
 use mathlib.Core.List.{List, [], _∷_}
 use lib.ListN.{length, getD, drop, drop-of-length-le}
 use lib.Seq.{drop-cons}
@@ -61,3 +61,11 @@ crossed false b x y = refl
 pub and-when : (a : Bool) {x y : Bool} → (a ≡ true → x ≡ y) → (a && x) ≡ (a && y)
 and-when true f = f refl
 and-when false f = refl
+
+-- ---- a choice whose test is known
+
+pub first-of : (x y : Bool) {b : Bool} → b ≡ true → x ≡ cond b x y
+first-of x y e = sym (ap (λ (b : Bool). cond b x y) e)
+
+pub second-of : (x y : Bool) {b : Bool} → b ≡ false → y ≡ cond b x y
+second-of x y e = sym (ap (λ (b : Bool). cond b x y) e)

@@ -22,6 +22,14 @@ use Rattle.soundness.specs.Soundness.{askedIn, answeredIn, listIn, cells
 use Rattle.soundness.proofs.Answers.{Combined, combined-parts}
 use Rattle.soundness.proofs.Lists.{list-few, list-entries, entries-count}
 
+-- ---- by the tests of the cells
+
+pub state-by : (place : List ℕ) {unasked one unanswered : Bool} → eqb (cellAt place askedIndex) 0 ≡ unasked → eqb (cellAt place stateIndex) 1 ≡ one → eqb (cellAt place answeredIndex) 0 ≡ unanswered → cond unasked (eqb (cellAt place stateIndex) 0) (one || (not unanswered && (eqb (cellAt place stateIndex) (cond (asAsked place) 2 3) && tookKept place))) ≡ stateByCells place
+unfolding stateByCells
+state-by place a b c =
+    let state : ℕ = cellAt place stateIndex in
+    λ i. cond (sym a i) (eqb state 0) (sym b i || (not (sym c i) && (eqb state (cond (asAsked place) 2 3) && tookKept place)))
+
 -- ---- the latest answer is a 47, or there is none
 
 -- the test of a state after an asking, by what was answered
