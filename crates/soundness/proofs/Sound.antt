@@ -2,24 +2,24 @@
 use Prim.Native.Nat.{ℕ, zero, suc, _+_, _*_, _-_, _≤_, _<_}
 use native.Mathlib.Omega.{arith}
 use mathlib.Core.Path.{_≡_, refl, sym, _∙_, ap}
-use mathlib.Core.Bool.{Bool, true, false, cond, not, _&&_, and-true, and-false, and-assoc}
+use mathlib.Core.Bool.{Bool, true, false, cond, not, _&&_, and-true, and-false, and-assoc, true≢false}
 use mathlib.Core.List.{List, _∷_, _++_}
 use mathlib.Core.Option.{Option, none, some}
 use mathlib.Core.Logic.{⊎-elim}
-use borrow.Author.Tests.{eq-eqb, ne-eqb}
+use borrow.Author.Tests.{eq-eqb, ne-eqb, eqb-true, eqb-false}
 use lib.Dec.{eqb, ltb}
 use lib.ListN.{length, drop, take-append-drop, drop-of-length-le}
 use lib.Seq.{drop-drop}
-use Rattle.protocol.proofs.Tests.{which}
+use Rattle.protocol.proofs.Tests.{which, and-left, and-right}
 use Rattle.rules.specs.Layout.{places, stride, tableSize, portCount, wiringIndex, portIndex, deviceIndex}
 use Rattle.rules.specs.Facts.{Facts, View, known, sameList}
 use Rattle.rules.specs.Table.{Record, Table, viewOfTable}
 use Rattle.rules.specs.WellFormed.{settingsFit, wiringFits, recordFits, placesFit, wellFormed}
-use Rattle.rules.specs.Cells.{placeCells, cellsOf, cellAt, settingsAt, recordAt, placeAt, tableAt, sound}
+use Rattle.rules.specs.Cells.{listCells, placeCells, cellsOf, cellAt, settingsAt, recordAt, placeAt, tableAt, sound}
 use Rattle.rules.proofs.CellsRecord.{place-length}
-use Rattle.rules.proofs.CellsSound.{sound-length}
+use Rattle.rules.proofs.CellsSound.{same-equal, sound-length}
 use Rattle.soundness.specs.Place.{placeAtIndex, fromPlace}
-use Rattle.soundness.specs.Soundness.{wiringIn, emptyPlace, exactSettings, exactWiring, exactRecord, soundSettings, soundRecord, placeFits, soundPlace}
+use Rattle.soundness.specs.Soundness.{wiringIn, emptyPlace, exactAsked, exactAnswered, exactList, exactTaken, exactSettings, exactWiring, exactRecord, soundSettings, soundRecord, placeFits, soundPlace}
 use Rattle.soundness.proofs.Places.{place-size, next}
 use Rattle.soundness.proofs.ExactCells.{record-exact}
 use Rattle.soundness.proofs.Lists.{same-append}
@@ -125,3 +125,25 @@ record-tests view place size =
     grouped : (w x p d s f : Bool) → (w && (p && d) && (x && s) && f) ≡ (w && x && (p && (d && s) && f))
     grouped true x p d s f = front x p d s f
     grouped false x p d s f = refl
+
+-- ---- the settings at a place of a sound table; those of a free place are none
+
+pub settings-here : (cells : List ℕ) → sound cells ≡ true → (i : ℕ) → i < places → soundSettings (placeAtIndex cells i) ≡ true
+unfolding emptyPlace soundSettings exactSettings exactAsked exactAnswered exactList exactTaken soundRecord listCells
+settings-here cells s i h =
+    let place : List ℕ = placeAtIndex cells i in
+    let view : View = viewOfTable (tableAt cells) in
+    let size : length cells ≡ tableSize = sound-length cells s in
+    let here : soundPlace cells i ≡ true =
+    ⊎-elim (λ (k : soundPlace cells i ≡ true). k) (λ (k : soundPlace cells i ≡ false). absurd (true≢false (sym s ∙ unsound cells size i h k))) (which (soundPlace cells i))
+    in
+    ⊎-elim
+    (λ (k : eqb (cellAt place wiringIndex) 0 ≡ true).
+    ap soundSettings (same-equal place (placeCells none) (free-sound cells place i refl (eqb-true (cellAt place wiringIndex) 0 k) ∙ here)))
+    (λ (k : eqb (cellAt place wiringIndex) 0 ≡ false).
+    let alone : Bool = not (known (viewOfTable (fromPlace cells (i + 1)) (cellAt place portIndex))) in
+    let small : Bool = ltb (cellAt place portIndex) portCount && ltb (cellAt place deviceIndex) 65536 in
+    let wired : Bool = wiringFits view (cellAt place portIndex) (wiringIn place) in
+    let whole : soundRecord view place ≡ true = and-left (soundRecord view place) alone (record-sound cells place i refl (eqb-false (cellAt place wiringIndex) 0 k) ∙ here) in
+    and-right (exactWiring place && small) (soundSettings place) (and-left (exactWiring place && small && soundSettings place) wired (record-tests view place (place-size cells i size h) ∙ whole)))
+    (which (eqb (cellAt place wiringIndex) 0))
