@@ -2,34 +2,24 @@
 use Prim.Native.Nat.{ℕ, zero, suc, _+_, _-_, _/_, _%_, _≤_, _<_}
 use native.Mathlib.Omega.{arith}
 use mathlib.Core.Path.{_≡_, refl, sym, _∙_, ap}
-use mathlib.Core.Bool.{Bool, true, false, cond, _&&_, _||_, and-true, and-assoc}
-use mathlib.Core.List.{List, [], _∷_}
+use mathlib.Core.Bool.{Bool, true, false, cond, _&&_, and-true, and-false, and-assoc}
+use mathlib.Core.List.{List}
+use mathlib.Core.Option.{Option}
 use mathlib.Core.Logic.{⊎-elim}
 use borrow.Author.Tests.{lt-ltb, le-leb, lt-leb, leb-true, leb-false}
-use lib.Dec.{eqb, leb, ltb, leb·suc-suc, eqb·suc-zero, eqb·suc-suc}
-use lib.ListN.{drop}
+use lib.Dec.{eqb, leb, ltb, eqb·suc-zero}
+use lib.ListN.{length, drop}
 use lib.Seq.{getD-take, getD-drop}
-use Rattle.rules.specs.Layout.{modeCount, experimentCount, stateIndex, askedIndex, experimentIndex, answeredIndex, formatsIndex}
-use Rattle.protocol.proofs.Tests.{which}
+use Rattle.protocol.proofs.Tests.{which, and-left, and-right}
 use Rattle.protocol.specs.Rule.{between}
-use Rattle.protocol.specs.Form.{lastMode, lastNotify, mostDatasets, lastKind}
-use Rattle.rules.specs.WellFormed.{setupFits, formatFits, formatsFit, stateFits, experimentFits}
-use Rattle.rules.specs.Cells.{setupCells, cellAt, formatAt, setupAt, setupFrom, settingsAt, sameCells}
-use Rattle.rules.proofs.CellsSound.{same-refl}
-use Rattle.soundness.specs.Soundness.{exactSetup, formatsInFit, sameSetups, stateInFits, experimentInFits, soundSetup, soundSettings}
-
--- ---- a setup, whose delta is a cell
-
--- by the test of its mode
-pub setup-fits : (mode delta notify : ℕ) {unset : Bool} → eqb mode 0 ≡ unset → delta < 4294967296 → cond unset (eqb delta 0 && eqb notify 0) (leb mode modeCount && leb notify lastNotify) ≡ (sameCells (mode ∷ delta ∷ notify ∷ []) (setupCells (setupAt mode delta notify)) && setupFits (setupAt mode delta notify))
-setup-fits mode delta notify e h = ap (λ (b : Bool). cond b (eqb delta 0 && eqb notify 0) (leb mode modeCount && leb notify lastNotify)) (sym e) ∙ rule mode
-  where
-    rule : (m : ℕ) → cond (eqb m 0) (eqb delta 0 && eqb notify 0) (leb m modeCount && leb notify lastNotify) ≡ (sameCells (m ∷ delta ∷ notify ∷ []) (setupCells (setupAt m delta notify)) && setupFits (setupAt m delta notify))
-    rule zero = sym (and-true _ ∙ ap (λ (b : Bool). eqb delta 0 && b) (and-true (eqb notify 0)))
-    rule (suc m) =
-        ap (λ (b : Bool). cond b (eqb delta 0 && eqb notify 0) (leb (suc m) modeCount && leb notify lastNotify)) (eqb·suc-zero m)
-        ∙ ap (λ (b : Bool). b && leb notify lastNotify) (leb·suc-suc m lastMode ∙ sym (and-true (leb m lastMode)) ∙ ap (λ (b : Bool). leb m lastMode && b) (sym (lt-ltb delta 4294967296 h)))
-        ∙ ap (λ (b : Bool). b && setupFits (setupAt (suc m) delta notify)) (sym (same-refl (suc m ∷ delta ∷ notify ∷ [])))
+use Rattle.protocol.specs.Form.{mostDatasets, lastKind}
+use Rattle.rules.specs.Layout.{modeCount, stride, experimentCount, stateIndex, askedIndex, experimentIndex, formatsIndex, listIndex}
+use Rattle.rules.specs.Facts.{Asking, Answering}
+use Rattle.rules.specs.WellFormed.{formatFits, formatsFit, keptFits, askedFits, answeredFits, stateFits, experimentFits}
+use Rattle.rules.specs.Cells.{cellAt, formatAt, askedAt, settingsAt}
+use Rattle.soundness.specs.Soundness.{askedIn, answeredIn, listIn, exactAsked, exactAnswered, exactList, exactTaken, exactSettings, formatsInFit, experimentInFits, soundList, soundAsked, soundAnswered, stateByCells, soundSettings}
+use Rattle.soundness.proofs.Loops.{crossed, and-when}
+use Rattle.soundness.proofs.States.{state-rule}
 
 -- ---- a format, whose figures and decimals are bytes
 
@@ -83,26 +73,9 @@ formats-next place (suc m) h k =
 pub formats-none : (place : List ℕ) (m : ℕ) → m ≤ 0 → formatsBelow place m ≡ true
 formats-none place m h = let zero-left : m ≡ 0 = omega arith in ap (formatsBelow place) zero-left
 
--- ---- the state
-
--- nothing was asked; something was and nothing answered; or both
-state-rule : (m d n m' d' n' s : ℕ) → cond (eqb m 0) (eqb s 0) (cond (eqb m' 0) (eqb s 1) (eqb s 1 || eqb s (cond (eqb m m' && eqb d d' && eqb n n') 2 3))) ≡ stateFits (setupAt m d n) (setupAt m' d' n') s
-state-rule zero d n m' d' n' s = refl
-state-rule (suc m) d n zero d' n' s = ap (λ (b : Bool). cond b (eqb s 0) (eqb s 1)) (eqb·suc-zero m)
-state-rule (suc m) d n (suc m') d' n' s =
-    λ i. cond (eqb·suc-zero m i) (eqb s 0) (cond (eqb·suc-zero m' i) (eqb s 1) (eqb s 1 || eqb s (cond (eqb·suc-suc m m' i && eqb d d' && eqb n n') 2 3)))
-
--- by the tests of its cells
-pub state-by : (place : List ℕ) {unasked unanswered same : Bool} → eqb (cellAt place askedIndex) 0 ≡ unasked → eqb (cellAt place answeredIndex) 0 ≡ unanswered → sameSetups place ≡ same → cond unasked (eqb (cellAt place stateIndex) 0) (cond unanswered (eqb (cellAt place stateIndex) 1) (eqb (cellAt place stateIndex) 1 || eqb (cellAt place stateIndex) (cond same 2 3))) ≡ stateInFits place
-unfolding stateInFits
-state-by place a b c =
-    let state : ℕ = cellAt place stateIndex in
-    (λ i. cond (sym a i) (eqb state 0) (cond (sym b i) (eqb state 1) (eqb state 1 || eqb state (cond (sym c i) 2 3))))
-    ∙ state-rule (cellAt place askedIndex) (cellAt place (askedIndex + 1)) (cellAt place (askedIndex + 2)) (cellAt place answeredIndex) (cellAt place (answeredIndex + 1)) (cellAt place (answeredIndex + 2)) state
-
 -- ---- the experiment number
 
-experiment-rule : (m d n e : ℕ) → cond (eqb m 0) (eqb e 0) (ltb e experimentCount) ≡ experimentFits (setupAt m d n) e
+experiment-rule : (m d n e : ℕ) → cond (eqb m 0) (eqb e 0) (ltb e experimentCount) ≡ experimentFits (askedAt m d n) e
 experiment-rule zero d n e = refl
 experiment-rule (suc m) d n e = ap (λ (b : Bool). cond b (eqb e 0) (ltb e experimentCount)) (eqb·suc-zero m)
 
@@ -115,31 +88,43 @@ experiment-by place a =
 
 -- ---- the settings, test by test
 
-pub settings-sound : (place : List ℕ) → (formatsInFit place && soundSetup place answeredIndex && soundSetup place askedIndex && stateInFits place && experimentInFits place) ≡ soundSettings place
-unfolding soundSetup soundSettings formatsInFit stateInFits experimentInFits
-settings-sound place =
-    grouped
-    (exactSetup place askedIndex)
-    (setupFits (setupFrom place askedIndex))
-    (exactSetup place answeredIndex)
-    (setupFits (setupFrom place answeredIndex))
-    (formatsFit modeCount (settingsAt place .formats))
-    (stateFits (setupFrom place askedIndex) (setupFrom place answeredIndex) (cellAt place stateIndex))
-    (experimentFits (setupFrom place askedIndex) (cellAt place experimentIndex))
+pub settings-sound : (place : List ℕ) → length place ≡ stride → (formatsInFit place && soundList place listIndex && soundAnswered place && soundAsked place && stateByCells place && experimentInFits place) ≡ soundSettings place
+unfolding soundList soundAnswered soundAsked soundSettings exactSettings formatsInFit experimentInFits
+settings-sound place size =
+    let asked : Option Asking = askedIn place in
+    let answered : Option Answering = answeredIn place in
+    let list : Option (List ℕ) = listIn place in
+    let formats : Bool = formatsFit modeCount (settingsAt place .formats) in
+    let experiment : Bool = experimentFits asked (cellAt place experimentIndex) in
+    ap (λ (b : Bool). b && experiment) (and-when (formats && soundList place listIndex && soundAnswered place && soundAsked place) (λ k.
+    let three = and-left (formats && soundList place listIndex && soundAnswered place) (soundAsked place) k in
+    let two = and-left (formats && soundList place listIndex) (soundAnswered place) three in
+    state-rule place size (and-right formats (soundList place listIndex) two) (and-right (formats && soundList place listIndex) (soundAnswered place) three)))
+    ∙ grouped
+    (exactAsked place)
+    (askedFits asked list)
+    (exactAnswered place)
+    (exactTaken place)
+    (answeredFits answered list)
+    (exactList place listIndex)
+    (keptFits list)
+    formats
+    (stateFits asked answered list (cellAt place stateIndex))
+    experiment
   where
-    front : (a fa b fb f : Bool) → (f && (b && fb) && (a && fa)) ≡ (a && b && (f && fb && fa))
-    front true fa true fb true = refl
-    front true fa true fb false = refl
-    front true fa false fb true = refl
-    front true fa false fb false = refl
-    front false fa true true true = refl
-    front false fa true false true = refl
-    front false fa true fb false = refl
-    front false fa false fb true = refl
-    front false fa false fb false = refl
+    lists : (f l fl : Bool) → (f && (l && fl)) ≡ (l && (f && fl))
+    lists true l fl = refl
+    lists false l fl = sym (and-false l)
 
-    grouped : (a fa b fb f s e : Bool) → (f && (b && fb) && (a && fa) && s && e) ≡ (a && b && (f && fb && fa && s && e))
-    grouped a fa b fb f s e =
-        ap (λ (t : Bool). t && s && e) (front a fa b fb f)
-        ∙ ap (λ (t : Bool). t && e) (and-assoc (a && b) (f && fb && fa) s)
-        ∙ and-assoc (a && b) (f && fb && fa && s) e
+    order : (a b l t : Bool) → (l && (b && t) && a) ≡ (a && b && l && t)
+    order true b true t = and-true (b && t) ∙ ap (λ (x : Bool). x && t) (sym (and-true b))
+    order true b false t = sym (ap (λ (x : Bool). x && t) (and-false b))
+    order false b l t = and-false (l && (b && t))
+
+    grouped : (a fa b t fb l fl f s e : Bool) → (f && (l && fl) && (b && t && fb) && (a && fa) && s && e) ≡ (a && b && l && t && (f && fl && fb && fa && s && e))
+    grouped a fa b t fb l fl f s e =
+        ap (λ (x : Bool). x && (b && t && fb) && (a && fa) && s && e) (lists f l fl)
+        ∙ ap (λ (x : Bool). x && (a && fa) && s && e) (crossed l (f && fl) (b && t) fb)
+        ∙ ap (λ (x : Bool). x && s && e) (crossed (l && (b && t)) (f && fl && fb) a fa ∙ ap (λ (x : Bool). x && (f && fl && fb && fa)) (order a b l t))
+        ∙ ap (λ (x : Bool). x && e) (and-assoc (a && b && l && t) (f && fl && fb && fa) s)
+        ∙ and-assoc (a && b && l && t) (f && fl && fb && fa && s) e

@@ -1,9 +1,12 @@
+pub mod Answers
 pub mod Bounds
 pub mod ExactCells
 pub mod FactsFit
+pub mod Lists
 pub mod Loops
 pub mod Places
 pub mod Records
 pub mod Rows
 pub mod Sound
+pub mod States
 pub mod WiringFits

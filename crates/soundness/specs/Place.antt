@@ -9,7 +9,7 @@ use Rattle.rules.specs.Layout.{places, stride, tableSize, wiringIndex, portInde
 use Rattle.rules.specs.Facts.{Facts}
 use Rattle.rules.specs.declared.Wiring.{Wiring}
 use Rattle.rules.specs.Table.{Table}
-use Rattle.rules.specs.Cells.{recordAt, wiringAt, placesAt, tableAt}
+use Rattle.rules.specs.Cells.{recordAt, wiringAt, entriesFrom, listFrom, placesAt, tableAt}
 
 -- the cells of the place at an index
 abbrev pub placeAtIndex : List ℕ → ℕ → List ℕ
@@ -26,6 +26,13 @@ factsAt cells i = cond (ltb i places) (some (recordAt (placeAtIndex cells i) .fa
 -- the wiring that the cells of the place at an index stand for
 abbrev pub wiringHere : List ℕ → ℕ → Wiring
 wiringHere cells i = wiringAt (cellOf cells i wiringIndex) (cellOf cells i firstIndex) (cellOf cells i secondIndex)
+
+-- the list whose count is a cell of the place at an index, and its entries
+abbrev pub entriesHere : List ℕ → ℕ → ℕ → List ℕ
+entriesHere cells i index = entriesFrom cells (stride * i + index)
+
+abbrev pub listHere : List ℕ → ℕ → ℕ → Option (List ℕ)
+listHere cells i index = listFrom cells (stride * i + index)
 
 -- whether the record of a port stands at an index
 unfoldable pub portAt : List ℕ → ℕ → ℕ → Bool

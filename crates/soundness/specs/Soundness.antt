@@ -1,28 +1,64 @@
 -- What soundness asks of the cells of one place, part by part.
-use Prim.Native.Nat.{ℕ, _+_}
-use mathlib.Core.Bool.{Bool, true, not, _&&_}
+use Prim.Native.Nat.{ℕ, suc, _+_, _-_, _^_}
+use mathlib.Core.Bool.{Bool, true, cond, not, _&&_, _||_}
 use mathlib.Core.List.{List, [], _∷_}
 use mathlib.Core.Option.{Option, none, some}
-use lib.Dec.{eqb}
+use lib.Dec.{eqb, ltb}
+use lib.ListN.{length, take, drop, replicate}
+use Rattle.protocol.specs.Form.{mostEntries, modeDatasetList, wrongByte}
 use Rattle.rules.specs.declared.Wiring.{Wiring}
-use Rattle.rules.specs.Layout.{modeCount, wiringIndex, firstIndex, secondIndex, stateIndex, askedIndex, experimentIndex, answeredIndex}
-use Rattle.rules.specs.Facts.{View, known}
+use Rattle.rules.specs.Layout.{modeCount, wiringIndex, firstIndex, secondIndex, stateIndex, askedIndex, experimentIndex, answeredIndex, listIndex, takenIndex}
+use Rattle.rules.specs.Facts.{Asking, Answering, View, known, sameList}
+use Rattle.rules.specs.Pointers.{pointersFit}
 use Rattle.rules.specs.Table.{Record, Table, viewOfTable}
-use Rattle.rules.specs.WellFormed.{setupFits, formatsFit, stateFits, experimentFits, settingsFit, recordFits}
-use Rattle.rules.specs.Cells.{setupCells, wiringCell, firstPartner, secondPartner, recordCells, placeCells, cellAt, setupFrom, wiringAt, settingsAt, recordAt, placeAt, tableAt, sameCells}
+use Rattle.rules.specs.WellFormed.{setupFits, allBytes, isNone, keptFits, askedFits, answeredFits, formatsFit, experimentFits, settingsFit, recordFits}
+use Rattle.rules.specs.Cells.{combinedCell, askedCells, answeredCells, takenBy, listCells, wiringCell, firstPartner, secondPartner, recordCells, placeCells, cellAt, setupAt, askedFrom, answeredFrom, entriesFrom, listFrom, wiringAt, settingsAt, recordAt, placeAt, tableAt}
 use Rattle.soundness.specs.Place.{placeAtIndex, fromPlace}
 
--- the wiring that the cells of a place stand for
+-- ---- what the cells of a place stand for
+
 abbrev pub wiringIn : List ℕ → Wiring
 wiringIn place = wiringAt (cellAt place wiringIndex) (cellAt place firstIndex) (cellAt place secondIndex)
 
+abbrev pub askedIn : List ℕ → Option Asking
+askedIn place = askedFrom place askedIndex
+
+abbrev pub answeredIn : List ℕ → Option Answering
+answeredIn place = answeredFrom place answeredIndex (entriesFrom place takenIndex)
+
+abbrev pub listIn : List ℕ → Option (List ℕ)
+listIn place = listFrom place listIndex
+
 -- ---- exact: the cells are those of what they stand for
 
-unfoldable pub emptyPlace : List ℕ → Bool
-emptyPlace place = sameCells place (placeCells none)
+unfoldable pub allZeros : List ℕ → Bool
+allZeros cells = sameList cells (replicate (length cells) 0)
 
-unfoldable pub exactSetup : List ℕ → ℕ → Bool
-exactSetup place at = sameCells (cellAt place at ∷ cellAt place (at + 1) ∷ cellAt place (at + 2) ∷ []) (setupCells (setupFrom place at))
+unfoldable pub emptyPlace : List ℕ → Bool
+emptyPlace place = sameList place (placeCells none)
+
+abbrev pub threeCells : List ℕ → ℕ → List ℕ
+threeCells place at = cellAt place at ∷ cellAt place (at + 1) ∷ cellAt place (at + 2) ∷ []
+
+-- a list's count and entries
+abbrev pub cellsOfList : List ℕ → ℕ → List ℕ
+cellsOfList place at = take (suc mostEntries) (drop at place)
+
+unfoldable pub exactAsked : List ℕ → Bool
+exactAsked place = sameList (threeCells place askedIndex) (askedCells (askedIn place))
+
+unfoldable pub exactAnswered : List ℕ → Bool
+exactAnswered place = sameList (threeCells place answeredIndex) (answeredCells (answeredIn place))
+
+unfoldable pub exactList : List ℕ → ℕ → Bool
+exactList place at = sameList (cellsOfList place at) (listCells (listFrom place at))
+
+-- the list that a 48 took over; zeros where the answer is no 48
+unfoldable pub exactTaken : List ℕ → Bool
+exactTaken place = sameList (cellsOfList place takenIndex) (listCells (takenBy (answeredIn place)))
+
+unfoldable pub exactSettings : List ℕ → Bool
+exactSettings place = exactAsked place && exactAnswered place && exactList place listIndex && exactTaken place
 
 abbrev pub exactAs : Wiring → List ℕ → Bool
 exactAs w place = eqb (cellAt place wiringIndex) (wiringCell w) && eqb (cellAt place firstIndex) (firstPartner w) && eqb (cellAt place secondIndex) (secondPartner w)
@@ -31,12 +67,49 @@ unfoldable pub exactWiring : List ℕ → Bool
 exactWiring place = exactAs (wiringIn place) place
 
 unfoldable pub exactRecord : List ℕ → Bool
-exactRecord place = sameCells place (recordCells (recordAt place))
+exactRecord place = sameList place (recordCells (recordAt place))
 
--- ---- within the lists, the state and the experiment number by their rules
+-- ---- within the lists, the experiment number by its rule
+
+-- bytes, none twice
+unfoldable pub entriesFit : List ℕ → Bool
+entriesFit entries = allBytes entries && isNone (wrongByte modeDatasetList entries)
 
 unfoldable pub formatsInFit : List ℕ → Bool
 formatsInFit place = formatsFit modeCount (settingsAt place .formats)
+
+unfoldable pub experimentInFits : List ℕ → Bool
+experimentInFits place = experimentFits (askedIn place) (cellAt place experimentIndex)
+
+-- ---- exact, and within the lists
+
+-- none, or a setup
+unfoldable pub soundSetup : List ℕ → ℕ → Bool
+soundSetup place at =
+    let mode = cellAt place at in
+    let delta = cellAt place (at + 1) in
+    let notify = cellAt place (at + 2) in
+    cond (eqb mode 0) (eqb delta 0 && eqb notify 0) (setupFits (setupAt (mode - 1) delta notify))
+
+unfoldable pub soundList : List ℕ → ℕ → Bool
+soundList place at = exactList place at && keptFits (listFrom place at)
+
+unfoldable pub soundAsked : List ℕ → Bool
+soundAsked place = exactAsked place && askedFits (askedIn place) (listIn place)
+
+unfoldable pub soundAnswered : List ℕ → Bool
+soundAnswered place = exactAnswered place && exactTaken place && answeredFits (answeredIn place) (listIn place)
+
+-- the same of a 48, by its cells: pointers that are a u16's, and the list that it took over
+unfoldable pub soundCombined : List ℕ → Bool
+soundCombined place =
+    let pointers = cellAt place (answeredIndex + 1) in
+    let count = cellAt place takenIndex in
+    eqb (cellAt place (answeredIndex + 2)) 0 && not (eqb (cellAt place listIndex) 0) && not (eqb count 0)
+    && soundList place takenIndex
+    && (ltb pointers 65536 && pointersFit pointers count)
+
+-- ---- the state by the cells, where the other settings are exact and within their lists
 
 -- the cells of what was asked and of what was answered are equal
 abbrev pub sameSetups : List ℕ → Bool
@@ -45,19 +118,28 @@ sameSetups place =
     && eqb (cellAt place (askedIndex + 1)) (cellAt place (answeredIndex + 1))
     && eqb (cellAt place (askedIndex + 2)) (cellAt place (answeredIndex + 2))
 
-unfoldable pub stateInFits : List ℕ → Bool
-stateInFits place = stateFits (setupFrom place askedIndex) (setupFrom place answeredIndex) (cellAt place stateIndex)
+-- what was answered is what was asked: the same setup, or all of the list
+unfoldable pub asAsked : List ℕ → Bool
+asAsked place =
+    let pointers = cellAt place (answeredIndex + 1) in
+    cond (eqb (cellAt place answeredIndex) combinedCell)
+    (eqb (cellAt place askedIndex) combinedCell && (ltb pointers 65536 && eqb (suc pointers) (2 ^ cellAt place takenIndex)))
+    (sameSetups place)
 
-unfoldable pub experimentInFits : List ℕ → Bool
-experimentInFits place = experimentFits (setupFrom place askedIndex) (cellAt place experimentIndex)
+-- a 48 took over the list that is kept
+unfoldable pub tookKept : List ℕ → Bool
+tookKept place = cond (eqb (cellAt place answeredIndex) combinedCell) (sameList (cellsOfList place takenIndex) (cellsOfList place listIndex)) true
 
--- ---- exact, and within the lists
+unfoldable pub stateByCells : List ℕ → Bool
+stateByCells place =
+    let state = cellAt place stateIndex in
+    cond (eqb (cellAt place askedIndex) 0) (eqb state 0)
+    (eqb state 1 || (not (eqb (cellAt place answeredIndex) 0) && (eqb state (cond (asAsked place) 2 3) && tookKept place)))
 
-unfoldable pub soundSetup : List ℕ → ℕ → Bool
-soundSetup place at = exactSetup place at && setupFits (setupFrom place at)
+-- ---- all of a record
 
 unfoldable pub soundSettings : List ℕ → Bool
-soundSettings place = exactSetup place askedIndex && exactSetup place answeredIndex && settingsFit (settingsAt place)
+soundSettings place = exactSettings place && settingsFit (settingsAt place)
 
 unfoldable pub soundRecord : View → List ℕ → Bool
 soundRecord view place = exactRecord place && recordFits view (recordAt place)
@@ -73,4 +155,4 @@ placeFits view later (some r) = recordFits view r && not (known (viewOfTable lat
 unfoldable pub soundPlace : List ℕ → ℕ → Bool
 soundPlace cells i =
     let place = placeAtIndex cells i in
-    sameCells place (placeCells (placeAt place)) && placeFits (viewOfTable (tableAt cells)) (fromPlace cells (i + 1)) (placeAt place)
+    sameList place (placeCells (placeAt place)) && placeFits (viewOfTable (tableAt cells)) (fromPlace cells (i + 1)) (placeAt place)

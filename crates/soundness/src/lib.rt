@@ -9,8 +9,8 @@ ghost use Rattle.rules.specs.Table.{viewOfTable};
 ghost use Rattle.rules.specs.Cells.{tableAt, sound};
 ghost use Rattle.soundness.specs.Row.{Indexed};
 ghost use Rattle.soundness.specs.Soundness.{soundRecord, soundPlace};
+use crate::exact::are_zeros;
 use crate::exact::exact_wiring;
-use crate::exact::is_empty;
 use crate::place::place_at;
 use crate::record::settings_fit;
 use crate::row::NOWHERE;
@@ -25,10 +25,13 @@ use rules::layout::PORT_COUNT;
 use rules::layout::TABLE_SIZE;
 use rules::layout::WIRING;
 
+mod answer;
 mod exact;
+mod list;
 pub mod place;
 mod record;
 mod row;
+mod state;
 mod wiring;
 
 // Whether a record's cells are those of what they stand for, and it fits.
@@ -49,7 +52,7 @@ fn is_sound_place(table: &[u32], row: &[u8], i: usize) -> bool
 {
     let place = place_at(table, i);
     if place[WIRING] == FREE {
-        return is_empty(place);
+        return are_zeros(place);
     }
     is_sound_record(table, row, place)
 }

@@ -1,4 +1,5 @@
 use mathlib.Core.Path.{_∙_}
+use Rattle.soundness.proofs.ExactCells.{empty-zeros}
 use Rattle.soundness.proofs.Sound.{free-sound, record-alone}
 use Rattle.soundness.proofs.Rows.{row-alone}
 use borrow.Author.Needs.{needs}
@@ -11,14 +12,14 @@ place-at-requires c κs = search needs
 shared-slice-read-if1 : tie.Need-shared-slice-read-if1
 shared-slice-read-if1 c = search needs
 
-is-empty-requires : tie.Need-is-empty-requires
-is-empty-requires c κs = search needs
+are-zeros-requires : tie.Need-are-zeros-requires
+are-zeros-requires c κs = search needs
 
 returns : tie.Need-returns
 returns c =
     let a = c .before .before .before .before .before .before .args in
     let at = c .before .before .before .place-at in
-    c .is-empty .ensures ∙ free-sound (a .table .now) (at .result .now) (a .i) (at .ensures .0) (c .before .if1 .taken)
+    c .are-zeros .ensures ∙ empty-zeros (at .result .now) (at .ensures .1) ∙ free-sound (a .table .now) (at .result .now) (a .i) (at .ensures .0) (c .before .if1 .taken)
 
 is-sound-record-requires : tie.Need-is-sound-record-requires
 is-sound-record-requires c κs = search needs
@@ -38,7 +39,7 @@ is-sound-place-spec =
     (tie.spec
     place-at-requires
     shared-slice-read-if1
-    is-empty-requires
+    are-zeros-requires
     returns
     is-sound-record-requires
     returns-2)

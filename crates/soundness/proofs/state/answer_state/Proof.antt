@@ -1,0 +1,18 @@
+use borrow.Author.Needs.{needs}
+use Prim.Native.Nat.{ℕ}
+use mathlib.Core.Path.{_≡_, sym, _∙_, ap}
+use mathlib.Core.Bool.{Bool, cond}
+use Rattle.soundness.proofs.state.answer_state.Statement.{statement}
+use Rattle.soundness.proofs.state.answer_state.Tie as tie
+
+is-as-asked-requires : tie.Need-is-as-asked-requires
+is-as-asked-requires c κs = search needs
+
+returns : tie.Need-returns
+returns c = sym (ap (λ (b : Bool). cond {A = ℕ} b 2 3) (sym (c .before .is-as-asked .ensures) ∙ c .if1 .taken))
+
+returns-2 : tie.Need-returns-2
+returns-2 c = sym (ap (λ (b : Bool). cond {A = ℕ} b 2 3) (sym (c .before .is-as-asked .ensures) ∙ c .if1 .left))
+
+pub answer-state-spec : {M : Type 1} → statement M
+answer-state-spec = tie.close (tie.spec is-as-asked-requires returns returns-2)
