@@ -42,6 +42,7 @@ module _ (cells : List ℕ) (at : ℕ) (xs : List ℕ) where
 -- ---- as stores in a place
 
 stores-sets : (cells : List ℕ) (place index : ℕ) (xs : List ℕ) → stored cells place (cellStores index xs) ≡ sets cells (stride * place + index) xs
+unfolding cellStores
 stores-sets cells place index [] = refl
 stores-sets cells place index (x ∷ xs) =
     stores-sets (set cells (stride * place + index) x) place (suc index) xs ∙ ap (λ (n : ℕ). sets (set cells (stride * place + index) x) n xs) (add-suc (stride * place) index)

@@ -22,12 +22,19 @@ abbrev pub stored : List ℕ → ℕ → List Store → List ℕ
 stored cells place [] = cells
 stored cells place (put index v ∷ s) = stored (set cells (stride * place + index) v) place s
 
--- a setup in the three cells from an index on, and the state
+-- an asking or an answer in the three cells from an index on, and the state
+abbrev pub threeStores : ℕ → ℕ → ℕ → ℕ → ℕ → List Store
+threeStores index mode delta notify state = put index mode ∷ put (index + 1) delta ∷ put (index + 2) notify ∷ put stateIndex state ∷ []
+
 abbrev pub setupStores : ℕ → Setup → ℕ → List Store
-setupStores index setup state = put index (setup .mode + 1) ∷ put (index + 1) (setup .delta) ∷ put (index + 2) (setup .notify) ∷ put stateIndex state ∷ []
+setupStores index setup state = threeStores index (setup .mode + 1) (setup .delta) (setup .notify) state
+
+-- an asking: its experiment number, what it asks for, and no answer since
+abbrev pub askingStores : ℕ → ℕ → ℕ → ℕ → List Store
+askingStores mode delta notify experiment = put experimentIndex experiment ∷ threeStores askedIndex mode delta notify 1
 
 -- numbers put into the cells from an index on
-abbrev pub cellStores : ℕ → List ℕ → List Store
+unfoldable pub cellStores : ℕ → List ℕ → List Store
 cellStores index [] = []
 cellStores index (v ∷ vs) = put index v ∷ cellStores (suc index) vs
 
@@ -35,21 +42,17 @@ cellStores index (v ∷ vs) = put index v ∷ cellStores (suc index) vs
 abbrev pub answeredStores : Setup → ℕ → List Store
 answeredStores setup state = cellStores takenIndex (replicate (suc mostEntries) 0) ++ setupStores answeredIndex setup state
 
--- a list: itself, its experiment number, that it is asked for, and no answer since
+-- a list: itself, and that it is asked for
 abbrev pub listedStores : List ℕ → ℕ → List Store
-listedStores entries experiment =
-    cellStores listIndex (listCells (some entries))
-    ++ (put experimentIndex experiment ∷ put askedIndex combinedCell ∷ put (askedIndex + 1) 0 ∷ put (askedIndex + 2) 0 ∷ put stateIndex 1 ∷ [])
+listedStores entries experiment = cellStores listIndex (listCells (some entries)) ++ askingStores combinedCell 0 0 experiment
 
 -- a 48: the cells of the list that it takes over, its pointers, and the state
 abbrev pub takenStores : ℕ → ℕ → List ℕ → List Store
-takenStores pointers state taken =
-    cellStores takenIndex taken
-    ++ (put answeredIndex combinedCell ∷ put (answeredIndex + 1) pointers ∷ put (answeredIndex + 2) 0 ∷ put stateIndex state ∷ [])
+takenStores pointers state taken = cellStores takenIndex taken ++ threeStores answeredIndex combinedCell pointers 0 state
 
--- a 41: its experiment number, what it asks for, and no answer since
+-- a 41
 abbrev pub askedStores : Setup → ℕ → List Store
-askedStores setup experiment = put experimentIndex experiment ∷ setupStores askedIndex setup 1
+askedStores setup experiment = askingStores (setup .mode + 1) (setup .delta) (setup .notify) experiment
 
 -- zeros in so many cells
 unfoldable pub zeroed : List ℕ → ℕ → ℕ → List ℕ
