@@ -99,7 +99,7 @@ mode-low s e =
     let low : s .mode ≤ lastMode = leb-true (s .mode) lastMode (and-left (leb (s .mode) lastMode) (ltb (s .delta) 4294967296) front) in
     ne-eqb (s .mode) modeCount (λ k. omega arith)
 
-asked-back : (x : Option Asking) (list : Option (List ℕ)) → askedFits x list ≡ true → askedFrom (askedCells x) 0 ≡ x
+pub asked-back : (x : Option Asking) (list : Option (List ℕ)) → askedFits x list ≡ true → askedFrom (askedCells x) 0 ≡ x
 asked-back none list e = refl
 asked-back (some (askedSingle s)) list e = ap (λ (b : Bool). some (cond b askedCombined (askedSingle s))) (mode-low s e)
 asked-back (some askedCombined) list e = refl
@@ -139,7 +139,7 @@ entries-front list c few =
     ∙ take-take (length list) mostEntries (list ++ zeros) few
     ∙ take-at list zeros (length list) refl
 
-few-entries : (list : List ℕ) → listFits list ≡ true → (1 ≤ length list) × (length list ≤ mostEntries)
+pub few-entries : (list : List ℕ) → listFits list ≡ true → (1 ≤ length list) × (length list ≤ mostEntries)
 unfolding listFits
 few-entries list e =
     let size = and-left (leb 1 (length list)) (leb (length list) mostEntries) in

@@ -59,7 +59,7 @@ pair-cells t a b y z l one two ab same =
     let u : Table = change a (wired y) t in
     ap (λ (l : List ℕ). stored l (placeOf t b) (wiring-stores y)) (wire-cells t a y z (l .distinct) one same)
     ∙ ap (λ (i : ℕ). stored (cellsOf u) i (wiring-stores y)) (sym (place-change t a (wired y) b))
-    ∙ wire-cells u b y z (loose-change a (wired y) t l (fit-wired a y) .distinct) (ap wiring? (view-kept t a b y ab) ∙ two) same
+    ∙ wire-cells u b y z (loose-change a (wired y) t l (λ (f : Facts) (_ : viewOfTable t a ≡ some f). fit-wired a y f) .distinct) (ap wiring? (view-kept t a b y ab) ∙ two) same
 
 -- a virtual port dissolved
 pub dissolve-cells : (t : Table) (p a b : ℕ) → Sound t → wiredIn t p ≡ some (Virtual a b)

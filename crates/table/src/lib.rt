@@ -66,7 +66,7 @@ pub fn offer(table: &mut [u32], message: &[u8], way: Way, experiment: u16) -> Ou
 // What the datasets of a message are read by, as the table stands. A plan of 16 bytes is lent, in which a 0x46 has its plan
 // afterwards.
 pub fn value(table: &[u32], message: &[u8], way: Way, plan: &mut [u8]) -> ValueMessage
-    ensures { λ r. ⌜ length (now (plan .entry)) ≡ mostDatasets → ((number : ℕ) → datasetBy r (now (plan .exit)) (now (message .entry)) number ≡ datasetByCells (now (table .entry)) way (now (message .entry)) number) × (valueFits r ≡ true) × (length (now (plan .exit)) ≡ mostDatasets) ⌝ }
+    ensures { λ r. ⌜ (length (now (plan .entry)) ≡ mostDatasets → ((number : ℕ) → datasetBy r (now (plan .exit)) (now (message .entry)) number ≡ datasetByCells (now (table .entry)) way (now (message .entry)) number) × (valueFits r ≡ true) × (length (now (plan .exit)) ≡ mostDatasets)) ⌝ }
 {
     if plan.len() == MOST_VALUES && is_sound(table) {
         return value_sound(table, message, way, plan);
