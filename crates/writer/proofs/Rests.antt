@@ -134,14 +134,14 @@ module _ (m n : Message) (is : m ≡ n) (opens : List ℕ) (least most : ℕ) (r
       let fits : (whole run size && (leb least size && leb size most)) ≡ true = sym (ap (λ (r : Rest). restFits r (afterFields (layout (formOf m) .fields) (valuesOf m)) size) run-follows) ∙ e in
       leb-true size most (and-right (leb least size) (leb size most) (and-right (whole run size) (leb least size && leb size most) fits))
 
-  pub first-wrong : (at i : ℕ) → fieldsEnd (formOf n) ≡ at → i ≡ wrongIndex run opens → placeOf at i (length opens) ≡ openOutside m opens
+  pub first-wrong : (at i count place : ℕ) → place ≡ placeOf at i count → at ≡ fieldsEnd (formOf n) → i ≡ wrongIndex run opens → count ≡ length opens → place ≡ openOutside m opens
   unfolding openOutside
-  first-wrong at i start first =
-      let size = length opens in
+  first-wrong at i count place e start first size =
       let found : openOutside m opens ≡ placeFrom at (wrongByte run opens) =
-      ap (λ (r : Rest). restOutside (fieldsEnd (formOf m)) r opens) run-follows ∙ ap (λ (k : ℕ). placeFrom k (wrongByte run opens)) (ap (λ (k : Message). fieldsEnd (formOf k)) is ∙ start)
+      ap (λ (r : Rest). restOutside (fieldsEnd (formOf m)) r opens) run-follows ∙ ap (λ (k : ℕ). placeFrom k (wrongByte run opens)) (ap (λ (k : Message). fieldsEnd (formOf k)) is ∙ sym start)
       in
-      ⊎-elim
-      (λ (yes : ltb i size ≡ true). rw yes (sym (found ∙ ap (placeFrom at) (one-wrong run opens (omega (arith, first, ltb-true i size yes))) ∙ ap (λ (k : ℕ). at + k) (sym first))))
-      (λ (no : ltb i size ≡ false). rw no (sym (found ∙ ap (placeFrom at) (all-right run opens (omega (arith, first, ltb-false i size no, index-few run opens))))))
-      (which (ltb i size))
+      e
+      ∙ ⊎-elim
+      (λ (yes : ltb i count ≡ true). rw yes (sym (found ∙ ap (placeFrom at) (one-wrong run opens (omega (arith, first, size, ltb-true i count yes))) ∙ ap (λ (k : ℕ). at + k) (sym first))))
+      (λ (no : ltb i count ≡ false). rw no (sym (found ∙ ap (placeFrom at) (all-right run opens (omega (arith, first, size, ltb-false i count no, index-few run opens))))))
+      (which (ltb i count))

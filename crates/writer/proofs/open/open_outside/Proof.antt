@@ -1,5 +1,5 @@
 use native.Mathlib.Omega.{arith}
-use mathlib.Core.Path.{refl, sym, _∙_}
+use mathlib.Core.Path.{refl, sym}
 use Rattle.protocol.specs.Form.{layout, feedbackPairs, modeDatasetList}
 use Rattle.writer.proofs.Rests.{never-outside, few-bytes, first-wrong}
 use borrow.Author.Needs.{needs}
@@ -34,19 +34,13 @@ returns : tie.Need-returns
 unfolding layout
 returns c =
     let a = c .before .before .before .before .before .args in
-    let is = c .before .before .enum-told .given .1 in
-    let wrong = c .before .wrong-feedback in
-    c .place-of .ensures
-    ∙ first-wrong (a .m) _ is (a .«open» .now) 2 124 feedbackPairs refl 3 (wrong .result) refl (wrong .ensures)
+    first-wrong (a .m) _ (c .before .before .enum-told .given .1) (a .«open» .now) 2 124 feedbackPairs refl 3 (c .before .wrong-feedback .result) _ (c .place-of .result) (c .place-of .ensures) refl (c .before .wrong-feedback .ensures) (omega arith)
 
 returns-2 : tie.Need-returns-2
 unfolding layout
 returns-2 c =
     let a = c .before .before .before .before .before .args in
-    let is = c .before .before .enum-told2 .given .1 in
-    let wrong = c .before .repeated-entry in
-    c .place-of2 .ensures
-    ∙ first-wrong (a .m) _ is (a .«open» .now) 1 16 modeDatasetList refl 6 (wrong .result) refl (wrong .ensures)
+    first-wrong (a .m) _ (c .before .before .enum-told2 .given .1) (a .«open» .now) 1 16 modeDatasetList refl 6 (c .before .repeated-entry .result) _ (c .place-of2 .result) (c .place-of2 .ensures) refl (c .before .repeated-entry .ensures) (omega arith)
 
 returns-3 : tie.Need-returns-3
 returns-3 c = let a = c .before .before .args in sym (never-outside (a .m) (a .«open» .now) (c .match .keys3))
