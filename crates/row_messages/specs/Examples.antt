@@ -25,7 +25,7 @@ up f ns opens a = record { way = Up; form = f; numbers = ns; opens = opens; answ
 abbrev pub examples : List Example
 examples =
     -- no form
-    up 39 [] [] (refused 255 0)
+    up 43 [] [] (refused 255 0)
     ∷ up 0 [] [] (refused 255 0)
     -- the way first
     ∷ down 11 (300 ∷ 300 ∷ []) [] (refused 5 2)
@@ -101,6 +101,53 @@ examples =
     ∷ down 38 [] (16 ∷ 10 ∷ []) (refused 5 2)
     ∷ []
 
+-- a 42 without a list: 1 leads to a list, 5 and a wider number to no form
+abbrev setups : List Example
+setups =
+    down 39 (0 ∷ 2 ∷ []) [] (encoded (0x05 ∷ 0x00 ∷ 0x42 ∷ 0x00 ∷ 0x02 ∷ []))
+    ∷ down 39 (1 ∷ 6 ∷ []) [] (encoded (0x05 ∷ 0x00 ∷ 0x42 ∷ 0x01 ∷ 0x06 ∷ []))
+    ∷ down 39 (0 ∷ 1 ∷ []) [] (refused 7 4)
+    ∷ down 39 (0 ∷ 5 ∷ []) [] (refused 7 4)
+    ∷ down 39 (0 ∷ 258 ∷ []) [] (refused 7 4)
+    ∷ down 39 (300 ∷ 2 ∷ []) [] (refused 255 0)
+    ∷ down 39 (300 ∷ 2 ∷ []) (0x10 ∷ []) (refused 6 5)
+    ∷ up 39 (0 ∷ 5 ∷ []) [] (refused 5 2)
+    ∷ []
+
+-- a 42 with one: 2 leads to a setup; an entry that was there before, also with a number that is too wide; none, and one too many
+abbrev lists : List Example
+lists =
+    down 40 (0 ∷ 1 ∷ 2 ∷ []) (0x10 ∷ 0x21 ∷ []) (encoded (0x08 ∷ 0x00 ∷ 0x42 ∷ 0x00 ∷ 0x01 ∷ 0x02 ∷ 0x10 ∷ 0x21 ∷ []))
+    ∷ down 40 (255 ∷ 1 ∷ 255 ∷ []) (0x00 ∷ 0x01 ∷ 0x02 ∷ 0x03 ∷ 0x04 ∷ 0x05 ∷ 0x06 ∷ 0x07 ∷ 0x08 ∷ 0x09 ∷ 0x0A ∷ 0x0B ∷ 0x0C ∷ 0x0D ∷ 0x0E ∷ 0x0F ∷ []) (encoded (0x16 ∷ 0x00 ∷ 0x42 ∷ 0xFF ∷ 0x01 ∷ 0xFF ∷ 0x00 ∷ 0x01 ∷ 0x02 ∷ 0x03 ∷ 0x04 ∷ 0x05 ∷ 0x06 ∷ 0x07 ∷ 0x08 ∷ 0x09 ∷ 0x0A ∷ 0x0B ∷ 0x0C ∷ 0x0D ∷ 0x0E ∷ 0x0F ∷ []))
+    ∷ down 40 (0 ∷ 2 ∷ 2 ∷ []) (0x10 ∷ []) (refused 7 4)
+    ∷ down 40 (0 ∷ 1 ∷ 2 ∷ []) (0x10 ∷ 0x21 ∷ 0x10 ∷ []) (refused 7 8)
+    ∷ down 40 (0 ∷ 1 ∷ 256 ∷ []) (0x10 ∷ 0x10 ∷ 0x21 ∷ []) (refused 7 7)
+    ∷ down 40 (0 ∷ 1 ∷ 256 ∷ []) (0x10 ∷ []) (refused 255 0)
+    ∷ down 40 (0 ∷ 1 ∷ 2 ∷ []) [] (refused 6 7)
+    ∷ down 40 (0 ∷ 1 ∷ 2 ∷ []) (0x00 ∷ 0x01 ∷ 0x02 ∷ 0x03 ∷ 0x04 ∷ 0x05 ∷ 0x06 ∷ 0x07 ∷ 0x08 ∷ 0x09 ∷ 0x0A ∷ 0x0B ∷ 0x0C ∷ 0x0D ∷ 0x0E ∷ 0x0F ∷ 0x10 ∷ []) (refused 6 7)
+    ∷ up 40 (0 ∷ 1 ∷ 2 ∷ []) (0x10 ∷ []) (refused 5 2)
+    ∷ []
+
+-- 46: any word, and one byte or more
+abbrev combinedValues : List Example
+combinedValues =
+    up 41 (0 ∷ 3 ∷ []) (0x80 ∷ 0xFE ∷ 0xFF ∷ []) (encoded (0x09 ∷ 0x00 ∷ 0x46 ∷ 0x00 ∷ 0x03 ∷ 0x00 ∷ 0x80 ∷ 0xFE ∷ 0xFF ∷ []))
+    ∷ up 41 (255 ∷ 65535 ∷ []) (0x00 ∷ []) (encoded (0x07 ∷ 0x00 ∷ 0x46 ∷ 0xFF ∷ 0xFF ∷ 0xFF ∷ 0x00 ∷ []))
+    ∷ up 41 (0 ∷ 65536 ∷ []) (0x80 ∷ []) (refused 255 0)
+    ∷ up 41 (0 ∷ 65536 ∷ []) [] (refused 6 7)
+    ∷ down 41 (0 ∷ 3 ∷ []) (0x80 ∷ []) (refused 5 2)
+    ∷ []
+
+-- 48: any byte and any word, and nothing behind them
+abbrev combinedFormats : List Example
+combinedFormats =
+    up 42 (1 ∷ 255 ∷ 32771 ∷ []) [] (encoded (0x07 ∷ 0x00 ∷ 0x48 ∷ 0x01 ∷ 0xFF ∷ 0x03 ∷ 0x80 ∷ []))
+    ∷ up 42 (1 ∷ 0 ∷ 65536 ∷ []) [] (refused 255 0)
+    ∷ up 42 (1 ∷ 256 ∷ 0 ∷ []) [] (refused 255 0)
+    ∷ up 42 (1 ∷ 0 ∷ 3 ∷ []) (0x01 ∷ []) (refused 6 7)
+    ∷ down 42 (1 ∷ 0 ∷ 3 ∷ []) [] (refused 5 2)
+    ∷ []
+
 -- the open bytes are said by the call, and not by the row
 abbrev row : Example → List ℕ
 row e = e .form ∷ 0 ∷ 0 ∷ length (e .numbers) ∷ padded 12 (e .numbers)
@@ -108,5 +155,8 @@ row e = e .form ∷ 0 ∷ 0 ∷ length (e .numbers) ∷ padded 12 (e .numbers)
 abbrev written : Example → Encoded
 written e = rowEncoded (e .way) (row e) (e .opens)
 
+abbrev Held : List Example → Type 0
+Held es = map written es ≡ map (λ e. e .answer) es
+
 abbrev pub ExamplesHold : Type 0
-ExamplesHold = map written examples ≡ map (λ e. e .answer) examples
+ExamplesHold = Held examples × Held setups × Held lists × Held combinedValues × Held combinedFormats
