@@ -7,7 +7,7 @@ use Rattle.protocol.specs.Decode.{smallestSize}
 use Rattle.protocol.specs.declared.Message.{Message}
 use Rattle.writer.specs.Slots.{typePlace}
 use Rattle.writer.proofs.Rests.{nothing-follows}
-use Rattle.writer.proofs.Sizes.{smallest-is}
+use Rattle.writer.proofs.Sizes.{smallest-is, smallest-of}
 use borrow.Author.Needs.{needs}
 use Rattle.writer.proofs.smallest_size.Statement.{statement}
 use Rattle.writer.proofs.smallest_size.Tie as tie
@@ -62,27 +62,15 @@ add-result-6 c = search needs
 
 returns : tie.Need-returns
 unfolding layout
-returns c =
-    let start = c .before .before .before in
-    let widths = c .before .before .widths in
-    smallest-is (start .args .m) (start .args .slots) (start .pre) (widths .result) (widths .ensures .0) _
-    (ap (λ (m : Message). layout (formOf m) .rest) (c .enum-told .given .1)) (λ vs. refl)
+returns c = smallest-of (c .enum-told .given .1) (c .before .before .before .pre) (c .before .before .widths .ensures .0) (λ vs. refl)
 
 returns-2 : tie.Need-returns-2
 unfolding layout
-returns-2 c =
-    let start = c .before .before .before in
-    let widths = c .before .before .widths in
-    smallest-is (start .args .m) (start .args .slots) (start .pre) (widths .result) (widths .ensures .0) _
-    (ap (λ (m : Message). layout (formOf m) .rest) (c .enum-told2 .given .1)) (λ vs. refl)
+returns-2 c = smallest-of (c .enum-told2 .given .1) (c .before .before .before .pre) (c .before .before .widths .ensures .0) (λ vs. refl)
 
 returns-3 : tie.Need-returns-3
 unfolding layout
-returns-3 c =
-    let start = c .before .before .before in
-    let widths = c .before .before .widths in
-    smallest-is (start .args .m) (start .args .slots) (start .pre) (widths .result) (widths .ensures .0) _
-    (ap (λ (m : Message). layout (formOf m) .rest) (c .enum-told3 .given .1)) (λ vs. refl)
+returns-3 c = smallest-of (c .enum-told3 .given .1) (c .before .before .before .pre) (c .before .before .widths .ensures .0) (λ vs. refl)
 
 returns-4 : tie.Need-returns-4
 unfolding layout
@@ -90,27 +78,15 @@ returns-4 c = sym (ap (λ (m : Message). smallestSize (formOf m)) (c .enum-told4
 
 returns-5 : tie.Need-returns-5
 unfolding layout
-returns-5 c =
-    let start = c .before .before .before in
-    let widths = c .before .before .widths in
-    smallest-is (start .args .m) (start .args .slots) (start .pre) (widths .result) (widths .ensures .0) _
-    (ap (λ (m : Message). layout (formOf m) .rest) (c .enum-told5 .given .1)) (λ vs. refl)
+returns-5 c = smallest-of (c .enum-told5 .given .1) (c .before .before .before .pre) (c .before .before .widths .ensures .0) (λ vs. refl)
 
 returns-6 : tie.Need-returns-6
 unfolding layout
-returns-6 c =
-    let start = c .before .before .before in
-    let widths = c .before .before .widths in
-    smallest-is (start .args .m) (start .args .slots) (start .pre) (widths .result) (widths .ensures .0) _
-    (ap (λ (m : Message). layout (formOf m) .rest) (c .enum-told6 .given .1)) (λ vs. refl)
+returns-6 c = smallest-of (c .enum-told6 .given .1) (c .before .before .before .pre) (c .before .before .widths .ensures .0) (λ vs. refl)
 
 returns-7 : tie.Need-returns-7
 unfolding layout
-returns-7 c =
-    let start = c .before .before .before in
-    let widths = c .before .before .widths in
-    smallest-is (start .args .m) (start .args .slots) (start .pre) (widths .result) (widths .ensures .0) _
-    (ap (λ (m : Message). layout (formOf m) .rest) (c .enum-told7 .given .1)) (λ vs. refl)
+returns-7 c = smallest-of (c .enum-told7 .given .1) (c .before .before .before .pre) (c .before .before .widths .ensures .0) (λ vs. refl)
 
 returns-8 : tie.Need-returns-8
 returns-8 c =
