@@ -11,4 +11,4 @@ use Rattle.row_messages.specs.RowWriting.{fitted, fittedSigned, settledB
 
 pub examples-hold : ExamplesHold
 unfolding rowEncoded formEncoded messageIn rowValues ownNumbers formAt fitted fittedSigned settledBits encodeValues encodeForm types hubProperties hubAlerts hubAttachedIo portInformation portModeInformation combinedFormatSetup portOutputCommand layout permits allowed carries greatest longest longestModeText payload alertStatus startByte signedSpeed degrees endState feedback firstTime lowFirst ofBits toBits fits
-examples-hold = (refl, refl, refl, refl, refl)
+examples-hold = (refl, refl, refl, refl, refl, refl, refl, refl, refl, refl, refl, refl, refl, refl, refl, refl, refl)
