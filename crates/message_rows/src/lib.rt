@@ -430,5 +430,23 @@ pub fn message_row(m: Message) -> [u64; ROW_SIZE]
             ],
         ),
         Message::OutputFeedback => row(38, 0, [0, 0, 0, 0, 0, 0, 0]),
+        Message::CombinedSetup { port, sub_command } => {
+            row(39, 2, [port as u64, sub_command as u64, 0, 0, 0, 0, 0])
+        }
+        Message::ModeDatasets { port, combination } => {
+            row(40, 3, [port as u64, 1, combination as u64, 0, 0, 0, 0])
+        }
+        Message::PortValueCombined { port, pointers } => {
+            row(41, 2, [port as u64, pointers as u64, 0, 0, 0, 0, 0])
+        }
+        Message::InputFormatCombined {
+            port,
+            control,
+            pointers,
+        } => row(
+            42,
+            3,
+            [port as u64, control as u64, pointers as u64, 0, 0, 0, 0],
+        ),
     }
 }

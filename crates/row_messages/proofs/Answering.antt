@@ -13,7 +13,7 @@ use Rattle.protocol.specs.declared.Written.the-variants.{Length, Refused}
 use Rattle.message_rows.specs.Row.{rowSize}
 use Rattle.writer.specs.Writing.{WriteAnswer, answerOf, answered, limited, lentAfter}
 use Rattle.writer.specs.Writing as Writing
-use Rattle.row_messages.specs.RowWriting.{noMessage, unlessOwn, formEncoded, rowEncoded}
+use Rattle.row_messages.specs.RowWriting.{noMessage, lastForm, unlessOwn, formEncoded, rowEncoded}
 
 -- what a call that writes has to give, of what the definition says
 abbrev pub Answers : Encoded → Written → List ℕ → List ℕ → Type 0
@@ -65,10 +65,10 @@ module _ (way : Way) (row opens : List ℕ) where
   unfolding rowEncoded
   no-form h k = rw (le-ltb (length row) rowSize h, lt-ltb (getD row 0 0) 1 k)
 
-  pub past-forms : rowSize ≤ length row → 1 ≤ getD row 0 0 → 38 < getD row 0 0 → rowEncoded way row opens ≡ noMessage
+  pub past-forms : rowSize ≤ length row → 1 ≤ getD row 0 0 → lastForm < getD row 0 0 → rowEncoded way row opens ≡ noMessage
   unfolding rowEncoded
-  past-forms h k l = rw (le-ltb (length row) rowSize h, le-ltb (getD row 0 0) 1 k, lt-ltb 38 (getD row 0 0) l)
+  past-forms h k l = rw (le-ltb (length row) rowSize h, le-ltb (getD row 0 0) 1 k, lt-ltb lastForm (getD row 0 0) l)
 
-  pub of-form : rowSize ≤ length row → 1 ≤ getD row 0 0 → getD row 0 0 ≤ 38 → rowEncoded way row opens ≡ formEncoded way (getD row 0 0) row opens
+  pub of-form : rowSize ≤ length row → 1 ≤ getD row 0 0 → getD row 0 0 ≤ lastForm → rowEncoded way row opens ≡ formEncoded way (getD row 0 0) row opens
   unfolding rowEncoded
-  of-form h k l = rw (le-ltb (length row) rowSize h, le-ltb (getD row 0 0) 1 k, le-ltb 38 (getD row 0 0) l)
+  of-form h k l = rw (le-ltb (length row) rowSize h, le-ltb (getD row 0 0) 1 k, le-ltb lastForm (getD row 0 0) l)

@@ -29,7 +29,7 @@ use Rattle.row_messages.proofs.Answering.{of-form}
 use Rattle.row_messages.proofs.Narrowing.{AllSlim, Numbers, fields-back, list-back}
 use Rattle.row_messages.proofs.OwnRow.{padded-length, accepted-size, few-values}
 use Rattle.row_messages.specs.RowTrip.{RowIsMessage, RowAsMessage, ReadRowThenWritten}
-use Rattle.row_messages.specs.RowWriting.{wordFields, rowValues, messageIn, sameTo, among, ownNumbers, unlessOwn, formEncoded, rowEncoded, narrowAll}
+use Rattle.row_messages.specs.RowWriting.{wordFields, lastForm, rowValues, messageIn, sameTo, among, ownNumbers, unlessOwn, formEncoded, rowEncoded, narrowAll}
 
 -- ---- facts of the forms
 
@@ -73,11 +73,15 @@ slim Form.gotoAbsolutePosition = omega arith
 slim Form.gotoAbsolutePositions = omega arith
 slim Form.presetEncoders = omega arith
 slim Form.outputFeedback = omega arith
+slim Form.combinedSetup = omega arith
+slim Form.modeDatasets = omega arith
+slim Form.portValueCombined = omega arith
+slim Form.inputFormatCombined = omega arith
 
 -- a form and its number
 pub record Numbered (f : Form) : Type 0 where
   pub least : 1 ≤ formNumber f
-  pub most : formNumber f ≤ 38
+  pub most : formNumber f ≤ lastForm
   -- the argument plays no part in the values of a row and in its message
   pub same-values : (row : List ℕ) → rowValues (formAt (formNumber f)) row ≡ rowValues f row
   pub same-message : (vs : List Value) → messageOf (formAt (formNumber f)) vs ≡ messageOf f vs
@@ -122,6 +126,10 @@ numbered Form.gotoAbsolutePosition = record { least = omega arith; most = omega 
 numbered Form.gotoAbsolutePositions = record { least = omega arith; most = omega arith; same-values = λ row. refl; same-message = λ vs. refl }
 numbered Form.presetEncoders = record { least = omega arith; most = omega arith; same-values = λ row. refl; same-message = λ vs. refl }
 numbered Form.outputFeedback = record { least = omega arith; most = omega arith; same-values = λ row. refl; same-message = λ vs. refl }
+numbered Form.combinedSetup = record { least = omega arith; most = omega arith; same-values = λ row. refl; same-message = λ vs. refl }
+numbered Form.modeDatasets = record { least = omega arith; most = omega arith; same-values = λ row. refl; same-message = λ vs. refl }
+numbered Form.portValueCombined = record { least = omega arith; most = omega arith; same-values = λ row. refl; same-message = λ vs. refl }
+numbered Form.inputFormatCombined = record { least = omega arith; most = omega arith; same-values = λ row. refl; same-message = λ vs. refl }
 
 -- ---- what reading gives
 

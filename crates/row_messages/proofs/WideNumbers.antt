@@ -11,7 +11,7 @@ use Rattle.protocol.specs.Rule.{upTo, oneOf}
 use Rattle.protocol.specs.Properties.{greatest, allowed}
 use Rattle.protocol.specs.Form
 use Rattle.protocol.specs.Form.{Form, layout, alertStatus, informationType, startByte, endState, signedSpeed, degrees}
-use Rattle.protocol.specs.Types.{types, downAction, hubProperties, hubActions, hubAlerts, hubAttachedIo, portInformation, portModeInformation, virtualPortSetup, portOutputCommand}
+use Rattle.protocol.specs.Types.{types, downAction, hubProperties, hubActions, hubAlerts, hubAttachedIo, portInformation, portModeInformation, combinedFormatSetup, virtualPortSetup, portOutputCommand}
 use Rattle.protocol.specs.declared.Way.{Way}
 use Rattle.protocol.specs.declared.Way.the-variants.{Down, Up}
 use Rattle.row_messages.specs.WideNumbers.{AllApart, NoSelectors, WiderIsOutside}
@@ -67,13 +67,17 @@ fields-apart Form.gotoAbsolutePosition = ((λ e n h. refl), (never, ((λ e n h. 
 fields-apart Form.gotoAbsolutePositions = ((λ e n h. refl), (never, ((λ e n h. refl), ((λ e z h. refl), ((λ e z h. refl), (never, (never, (never, (never, tt)))))))))
 fields-apart Form.presetEncoders = ((λ e n h. refl), (never, ((λ e n h. refl), ((λ e z h. refl), ((λ e z h. refl), tt)))))
 fields-apart Form.outputFeedback = tt
+fields-apart Form.combinedSetup = ((λ e n h. refl), ((λ e n h. refl), tt))
+fields-apart Form.modeDatasets = ((λ e n h. refl), ((λ e n h. refl), ((λ e n h. refl), tt)))
+fields-apart Form.portValueCombined = ((λ e n h. refl), ((λ e n h. refl), tt))
+fields-apart Form.inputFormatCombined = ((λ e n h. refl), ((λ e n h. refl), ((λ e n h. refl), tt)))
 
 no-selectors : (way : Way) → NoSelectors (types way)
-unfolding types hubProperties hubActions hubAlerts hubAttachedIo portInformation portModeInformation virtualPortSetup portOutputCommand allowed downAction
+unfolding types hubProperties hubActions hubAlerts hubAttachedIo portInformation portModeInformation combinedFormatSetup virtualPortSetup portOutputCommand allowed downAction
 no-selectors Down =
-    ((refl, λ property. (refl, λ operation. tt)), ((refl, λ action. tt), ((refl, λ alert. (refl, λ operation. tt)), (tt, (tt, (tt, (tt, (tt, (tt, ((refl, λ sub. tt), ((refl, λ sub. tt), tt)))))))))))
+    ((refl, λ property. (refl, λ operation. tt)), ((refl, λ action. tt), ((refl, λ alert. (refl, λ operation. tt)), (tt, (tt, (tt, (tt, (tt, (tt, ((refl, λ sub. tt), ((refl, λ sub. tt), ((refl, λ sub. tt), tt))))))))))))
 no-selectors Up =
-    ((refl, λ property. (refl, λ operation. tt)), ((refl, λ action. tt), ((refl, λ alert. (refl, λ operation. tt)), ((refl, λ event. tt), (tt, (tt, ((refl, λ information. tt), ((refl, λ information. tt), (tt, (tt, (tt, tt)))))))))))
+    ((refl, λ property. (refl, λ operation. tt)), ((refl, λ action. tt), ((refl, λ alert. (refl, λ operation. tt)), ((refl, λ event. tt), (tt, (tt, ((refl, λ information. tt), ((refl, λ information. tt), (tt, (tt, (tt, (tt, (tt, tt)))))))))))))
 
 pub wider-is-outside : WiderIsOutside
 wider-is-outside = (fields-apart, no-selectors)

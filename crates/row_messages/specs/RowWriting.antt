@@ -119,11 +119,15 @@ formEncoded way n row opens =
     let vs = rowValues (formAt n) row in
     unlessOwn (ownNumbers f vs row) (encodeValues way f vs opens)
 
--- writing what a row gives: it is a whole row, and its form is one of the 38
+-- the forms are numbered from 1 to this
+abbrev pub lastForm : ℕ
+lastForm = 42
+
+-- writing what a row gives: it is a whole row, and its form is one of them
 unfoldable pub rowEncoded : Way → List ℕ → List ℕ → Encoded
 rowEncoded way row opens =
     let form = getD row 0 0 in
-    cond (ltb (length row) rowSize) noMessage (cond (ltb form 1) noMessage (cond (ltb 38 form) noMessage (formEncoded way form row opens)))
+    cond (ltb (length row) rowSize) noMessage (cond (ltb form 1) noMessage (cond (ltb lastForm form) noMessage (formEncoded way form row opens)))
 
 -- how many values of a message's own row are compared: of form 23 as many entries as it says
 unfoldable pub comparedIn : List ℕ → ℕ

@@ -5,23 +5,23 @@ use mathlib.Core.Path.{_≡_, refl, sym, _∙_, ap}
 use mathlib.Core.Bool.{Bool, true, false, cond, _||_}
 use mathlib.Core.List.{List, [], _∷_}
 use mathlib.Core.Logic.{⊎-elim}
-use borrow.Author.Tests.{eqb-true, eq-eqb}
+use borrow.Author.Tests.{eqb-true, eq-eqb, ne-eqb, le-leb}
 use lib.Dec.{eqb}
 use lib.ListN.{getD}
 use Rattle.protocol.proofs.Answers.{message-back}
 use Rattle.protocol.proofs.Tests.{which}
-use Rattle.protocol.specs.Rule.{between, oneOf}
+use Rattle.protocol.specs.Rule.{between, oneOf, either}
 use Rattle.protocol.specs.Properties.{carries, allowed, outsideSelector}
 use Rattle.protocol.specs.Field.{Value}
 use Rattle.protocol.specs.Form
 use Rattle.protocol.specs.Form.{Form, formNumber, argument, sameForm, code}
-use Rattle.protocol.specs.Types.{payload, downAction, upAction, hubProperties, hubActions, hubAlerts, hubAttachedIo, portInformation, portModeInformation, virtualPortSetup, portOutputCommand, types, readOnly}
+use Rattle.protocol.specs.Types.{payload, downAction, upAction, hubProperties, hubActions, hubAlerts, hubAttachedIo, portInformation, portModeInformation, combinedFormatSetup, virtualPortSetup, portOutputCommand, types, readOnly}
 use Rattle.protocol.specs.Answer.{formOf, valuesOf, naturalAt, messageOf}
 use Rattle.protocol.specs.Encode.{Encoded, refused, encodeForm, encodeValues, encode}
 use Rattle.protocol.specs.declared.Message.{Message}
 use Rattle.protocol.specs.declared.Way.{Way}
 use Rattle.protocol.specs.declared.Way.the-variants.{Down, Up}
-use Rattle.selectors.specs.Choice.{afterSelectors, downOnly, upOnly, downReadOnly, upReadOnly, propertyForm, propertyChoice, actionChoice, commandLeads, updateLeads, alertChoice, choiceOf, formAt}
+use Rattle.selectors.specs.Choice.{afterSelectors, downOnly, upOnly, downReadOnly, upReadOnly, propertyForm, propertyChoice, actionChoice, commandLeads, updateLeads, alertChoice, setup, choiceOf, formAt}
 use Rattle.selectors.specs.declared.Choice.{Choice}
 use Rattle.selectors.specs.declared.Choice.the-variants.{Chosen, Refused}
 
@@ -281,6 +281,20 @@ module _ (b : ℕ) (x r : Encoded) where
   encoders-value : commands Form.presetEncoders b ≡ cond (eqb b 0x14) x r
   encoders-value = by-value (commands Form.presetEncoders) b 0x14 x r refl (λ no. rw no (not-encoders (eqb b 0x0C) (eqb b 0x0D) (eqb b 0x0E) x r))
 
+-- ---- combined mode
+
+module _ (x r : Encoded) where
+  abbrev combined : Form → ℕ → Encoded
+  combined f v = cond (either (between 1 4) (oneOf (6 ∷ [])) v) (cond (sameForm (cond (eqb v 1) Form.modeDatasets Form.combinedSetup) f) x r) r
+
+  setup-value : (v : ℕ) → combined Form.combinedSetup v ≡ cond (setup v) x r
+  setup-value zero = refl
+  setup-value (suc zero) = refl
+  setup-value (suc (suc n)) = rw (le-leb 1 (suc (suc n)) (omega arith), le-leb 2 (suc (suc n)) (omega arith), ne-eqb (suc (suc n)) 1 (λ e. omega arith))
+
+  datasets-value : (v : ℕ) → combined Form.modeDatasets v ≡ cond (eqb v 1) x r
+  datasets-value v = by-value (combined Form.modeDatasets) v 1 x r refl (λ no. rw no (either-way (either (between 1 4) (oneOf (6 ∷ [])) v) r))
+
 -- ---- what a mode is
 
 abbrev information : List ℕ
@@ -432,7 +446,7 @@ abbrev pub Argued : Form → List Value → Type 0
 Argued f vs = argument f ≡ argument (formOf (messageOf f vs))
 
 pub selects : (f : Form) (vs : List Value) → Argued f vs → (way : Way) → RightFor way f vs (choiceOf f way (naturalAt vs 0) (naturalAt vs 1) (naturalAt vs 2))
-unfolding encodeValues types hubAttachedIo portInformation portModeInformation virtualPortSetup portOutputCommand
+unfolding encodeValues types hubAttachedIo portInformation portModeInformation combinedFormatSetup virtualPortSetup portOutputCommand
 selects Form.propertyCommand vs a = property-right Form.propertyCommand vs refl refl
 selects (Form.propertyText p) vs a = property-right (Form.propertyText p) vs refl a
 selects (Form.propertyByte p) vs a = property-right (Form.propertyByte p) vs refl a
@@ -471,6 +485,10 @@ selects Form.gotoAbsolutePosition vs a = going-down Form.gotoAbsolutePosition vs
 selects Form.gotoAbsolutePositions vs a = going-down Form.gotoAbsolutePositions vs (eqb (naturalAt vs 2) 0x0E) 5 (λ opens. positions-value (naturalAt vs 2) (encodeForm Form.gotoAbsolutePositions vs opens) (refused 7 5)) (λ opens. refl)
 selects Form.presetEncoders vs a = going-down Form.presetEncoders vs (eqb (naturalAt vs 2) 0x14) 5 (λ opens. encoders-value (naturalAt vs 2) (encodeForm Form.presetEncoders vs opens) (refused 7 5)) (λ opens. refl)
 selects Form.outputFeedback vs a = going-up Form.outputFeedback vs true 0 (λ opens. refl) (λ opens. refl)
+selects Form.combinedSetup vs a = going-down Form.combinedSetup vs (setup (naturalAt vs 1)) 4 (λ opens. setup-value (encodeForm Form.combinedSetup vs opens) (refused 7 4) (naturalAt vs 1)) (λ opens. refl)
+selects Form.modeDatasets vs a = going-down Form.modeDatasets vs (eqb (naturalAt vs 1) 1) 4 (λ opens. datasets-value (encodeForm Form.modeDatasets vs opens) (refused 7 4) (naturalAt vs 1)) (λ opens. refl)
+selects Form.portValueCombined vs a = going-up Form.portValueCombined vs true 0 (λ opens. refl) (λ opens. refl)
+selects Form.inputFormatCombined vs a = going-up Form.inputFormatCombined vs true 0 (λ opens. refl) (λ opens. refl)
 
 -- and of every message
 pub message-right : (m : Message) (way : Way) → Right way m (choiceOf (formOf m) way (naturalAt (valuesOf m) 0) (naturalAt (valuesOf m) 1) (naturalAt (valuesOf m) 2))

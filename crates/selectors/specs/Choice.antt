@@ -4,7 +4,7 @@ use mathlib.Core.Bool.{Bool, true, false, cond}
 use mathlib.Core.List.{[], _∷_}
 use lib.Dec.{eqb}
 use lib.ListN.{getD}
-use Rattle.protocol.specs.Rule.{between, oneOf}
+use Rattle.protocol.specs.Rule.{Rule, between, oneOf, either}
 use Rattle.protocol.specs.Properties.{carries, outsideSelector}
 use Rattle.protocol.specs.Form
 use Rattle.protocol.specs.Form.{Form, formNumber, formsBy}
@@ -65,6 +65,10 @@ updateLeads Up operation = oneOf (4 ∷ []) operation
 abbrev pub alertChoice : ℕ → Bool → Choice
 alertChoice alert leads = cond (between 1 4 alert) (cond leads Chosen (Refused 7 4)) (Refused 7 3)
 
+-- the sub commands of a 42 without a list
+abbrev pub setup : Rule
+setup = either (between 2 4) (oneOf (6 ∷ []))
+
 -- what comes of a form's way and of its selectors, which are among its first three values
 abbrev pub choiceOf : Form → Way → ℕ → ℕ → ℕ → Choice
 choiceOf Form.propertyCommand way a b c = propertyChoice way a b 1
@@ -105,6 +109,10 @@ choiceOf Form.gotoAbsolutePosition way a b c = downOnly way (eqb c 0x0D) 5
 choiceOf Form.gotoAbsolutePositions way a b c = downOnly way (eqb c 0x0E) 5
 choiceOf Form.presetEncoders way a b c = downOnly way (eqb c 0x14) 5
 choiceOf Form.outputFeedback way a b c = upOnly way true 0
+choiceOf Form.combinedSetup way a b c = downOnly way (setup b) 4
+choiceOf Form.modeDatasets way a b c = downOnly way (eqb b 1) 4
+choiceOf Form.portValueCombined way a b c = upOnly way true 0
+choiceOf Form.inputFormatCombined way a b c = upOnly way true 0
 
 -- the form of a number, with any argument, since no choice looks at it; a number that is no form's counts as 15
 unfoldable pub formAt : ℕ → Form

@@ -13,7 +13,7 @@ ghost use Rattle.protocol.specs.Rule.{oneOf};
 ghost use Rattle.protocol.specs.Form.{formNumber};
 ghost use Rattle.protocol.specs.Answer.{formOf, valuesOf};
 ghost use Rattle.protocol.specs.Encode.{encode, encodeForm};
-ghost use Rattle.selectors.specs.Choice.{afterSelectors, downOnly, upOnly, downReadOnly, upReadOnly, propertyForm, propertyChoice, isAction, actionChoice, commandLeads, updateLeads, alertChoice, choiceOf, formAt};
+ghost use Rattle.selectors.specs.Choice.{afterSelectors, downOnly, upOnly, downReadOnly, upReadOnly, propertyForm, propertyChoice, isAction, actionChoice, commandLeads, updateLeads, alertChoice, setup, choiceOf, formAt};
 
 // Which refusal comes of them; chosen where none does.
 pub enum Choice {
@@ -216,6 +216,16 @@ fn is_range(information: u8) -> bool
     }
 }
 
+// 0x42: a sub command without a list.
+fn is_setup(sub: u8) -> bool
+    ensures { λ r. ⌜ r ≡ setup sub ⌝ }
+{
+    if between(2, sub, 4) {
+        return true;
+    }
+    sub == 6
+}
+
 // What comes of a form, by its number, and of its selectors, which are among its first three values.
 pub fn choose(form: u64, way: Way, a: u8, b: u8, c: u8) -> Choice
     ensures { λ r. ⌜ r ≡ choiceOf (formAt form) way a b c ⌝ }
@@ -255,6 +265,10 @@ pub fn choose(form: u64, way: Way, a: u8, b: u8, c: u8) -> Choice
         36 => goes_down(way, c == 0x0E, 5),
         37 => goes_down(way, c == 0x14, 5),
         38 => goes_up(way, true, 0),
+        39 => goes_down(way, is_setup(b), 4),
+        40 => goes_down(way, b == 1, 4),
+        41 => goes_up(way, true, 0),
+        42 => goes_up(way, true, 0),
         _ => goes_down(way, true, 0),
     }
 }
@@ -425,5 +439,22 @@ pub fn selected(m: Message, way: Way) -> Choice
             right: _,
         } => choose(37, way, 0, 0, 0x14),
         Message::OutputFeedback => choose(38, way, 0, 0, 0),
+        Message::CombinedSetup {
+            port: _,
+            sub_command,
+        } => choose(39, way, 0, sub_command, 0),
+        Message::ModeDatasets {
+            port: _,
+            combination: _,
+        } => choose(40, way, 0, 1, 0),
+        Message::PortValueCombined {
+            port: _,
+            pointers: _,
+        } => choose(41, way, 0, 0, 0),
+        Message::InputFormatCombined {
+            port: _,
+            control: _,
+            pointers: _,
+        } => choose(42, way, 0, 0, 0),
     }
 }

@@ -619,5 +619,27 @@ pub fn slots_of(m: Message) -> [Slot; 11]
             Slot::SignedLong(right),
         ),
         Message::OutputFeedback => row0(0x82),
+        Message::CombinedSetup { port, sub_command } => {
+            row2(0x42, Slot::Byte(port), Slot::Byte(sub_command))
+        }
+        Message::ModeDatasets { port, combination } => row3(
+            0x42,
+            Slot::Byte(port),
+            Slot::Byte(1),
+            Slot::Byte(combination),
+        ),
+        Message::PortValueCombined { port, pointers } => {
+            row2(0x46, Slot::Byte(port), Slot::Word(pointers))
+        }
+        Message::InputFormatCombined {
+            port,
+            control,
+            pointers,
+        } => row3(
+            0x48,
+            Slot::Byte(port),
+            Slot::Byte(control),
+            Slot::Word(pointers),
+        ),
     }
 }

@@ -304,6 +304,10 @@ by-slots (Message'.GotoAbsolutePosition p s a v w e u) opens slots x right = pla
 by-slots (Message'.GotoAbsolutePositions p s a b v w e u) opens slots x right = plain-slots (Message'.GotoAbsolutePositions p s a b v w e u) opens slots tt refl refl x right
 by-slots (Message'.PresetEncoders p s l r) opens slots x right = plain-slots (Message'.PresetEncoders p s l r) opens slots tt refl refl x right
 by-slots Message'.OutputFeedback opens slots x right = plain-slots Message'.OutputFeedback opens slots tt refl refl x right
+by-slots (Message'.CombinedSetup p s) opens slots x right = plain-slots (Message'.CombinedSetup p s) opens slots tt refl refl x right
+by-slots (Message'.ModeDatasets p k) opens slots x right = plain-slots (Message'.ModeDatasets p k) opens slots tt refl refl x right
+by-slots (Message'.PortValueCombined p w) opens slots x right = plain-slots (Message'.PortValueCombined p w) opens slots tt refl refl x right
+by-slots (Message'.InputFormatCombined p k w) opens slots x right = plain-slots (Message'.InputFormatCombined p k w) opens slots tt refl refl x right
 
 -- ---- the answers
 

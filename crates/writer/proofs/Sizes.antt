@@ -56,3 +56,8 @@ pub smallest-is : (m : Message) (slots : List Slot) → Slotted m slots → (w :
 smallest-is m slots x w is r follows none =
     let vs : List Value = afterFields (layout (formOf m) .fields) (valuesOf m) in
     omega (arith, is, slots-end m slots x (ap (λ (rest : Rest). wordFields rest vs) follows ∙ none vs), ap leastRest follows)
+
+-- of a message that is known by its case
+pub smallest-of : {m n : Message} {slots : List Slot} {w : ℕ} → m ≡ n → Slotted m slots → w ≡ length (slotsBytes slots) → ((vs : List Value) → wordFields (layout (formOf n) .rest) vs ≡ [])
+    → typePlace + w + leastRest (layout (formOf n) .rest) ≡ smallestSize (formOf m)
+smallest-of {m} {n} {slots} {w} e x is none = smallest-is m slots x w is (layout (formOf n) .rest) (ap (λ (k : Message). layout (formOf k) .rest) e) none

@@ -1,7 +1,8 @@
 -- Whether the open bytes of a message are as its form wants them: how many, and each of them.
 use Prim.Native.Nat.{ℕ, _+_}
-use mathlib.Core.Bool.{Bool}
+use mathlib.Core.Bool.{Bool, cond}
 use mathlib.Core.List.{List}
+use lib.Dec.{ltb}
 use mathlib.Core.Option.{Option, none, some}
 use Rattle.protocol.specs.Form.{Rest, nothing, openRun, words, layout, wrongByte}
 use Rattle.protocol.specs.Decode.{fieldsEnd}
@@ -16,6 +17,10 @@ openFits m count = restFits (layout (formOf m) .rest) (afterFields (layout (form
 abbrev pub placeFrom : ℕ → Option ℕ → ℕ
 placeFrom at none = 0
 placeFrom at (some i) = at + i
+
+-- the place of a byte by its index among so many that start at a place; 0 where none is there
+abbrev pub placeOf : ℕ → ℕ → ℕ → ℕ
+placeOf at i count = cond (ltb i count) (at + i) 0
 
 -- the place of the first wrong open byte, where they start at a place; 0 where all are right
 abbrev pub restOutside : ℕ → Rest → List ℕ → ℕ

@@ -116,6 +116,14 @@ fn smallest_size(m: Message, slots: [Slot; 11]) -> u16
             combinations: _,
         } => 7,
         Message::OutputFeedback => end + 2,
+        Message::ModeDatasets {
+            port: _,
+            combination: _,
+        } => end + 1,
+        Message::PortValueCombined {
+            port: _,
+            pointers: _,
+        } => end + 1,
         _ => end,
     }
 }

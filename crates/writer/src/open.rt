@@ -1,14 +1,16 @@
 // Whether what follows the fields is right: refusal 6, and 7 of the open bytes.
 use hub_messages::rule::between;
+use hub_messages::rule::repeated_entry;
 use hub_messages::rule::wrong_feedback;
 use protocol::Message;
 ghost use mathlib.Core.Path.{_≡_};
 ghost use mathlib.Core.Bool.{true};
+ghost use Prim.Native.Nat.{_≤_};
 ghost use lib.ListN.{length};
 ghost use Rattle.protocol.specs.Form as Form;
 ghost use Rattle.protocol.specs.Properties as Properties;
 ghost use Rattle.protocol.specs.Rule as Rule;
-ghost use Rattle.writer.specs.Open.{openFits, openOutside};
+ghost use Rattle.writer.specs.Open.{openFits, placeOf, openOutside};
 
 // The most bytes of a property's text.
 fn longest(property: u8) -> usize
@@ -65,25 +67,42 @@ pub(crate) fn open_fits(m: Message, count: usize) -> bool
                 false
             }
         }
+        Message::ModeDatasets {
+            port: _,
+            combination: _,
+        } => within(1, count, 16),
+        Message::PortValueCombined {
+            port: _,
+            pointers: _,
+        } => within(1, count, 121),
         _ => count == 0,
     }
 }
 
-// The place of the first open byte that is not as it must be, which only an 82 can have; 0 where all
-// are.
+// Of so many bytes that start at a place, the place of the one at an index; 0 where none is there.
+fn place_of(start: u8, index: usize, count: usize) -> u16
+    requires { ⌜ count ≤ 124 ⌝ }
+    ensures { λ r. ⌜ r ≡ placeOf start index count ⌝ }
+{
+    if index < count {
+        (start as usize + index) as u16
+    } else {
+        0
+    }
+}
+
+// The place of the first open byte that is not as it must be, which only an 82 and a 42's list can
+// have; 0 where all are.
 pub(crate) fn open_outside(m: Message, open: &[u8]) -> u16
     requires { ⌜ openFits m (length (now «open»)) ≡ true ⌝ }
     ensures { λ r. ⌜ r ≡ openOutside m (now («open» .entry)) ⌝ }
 {
     match m {
-        Message::OutputFeedback => {
-            let index = wrong_feedback(open);
-            if index < open.len() {
-                (3 + index) as u16
-            } else {
-                0
-            }
-        }
+        Message::OutputFeedback => place_of(3, wrong_feedback(open), open.len()),
+        Message::ModeDatasets {
+            port: _,
+            combination: _,
+        } => place_of(6, repeated_entry(open), open.len()),
         _ => 0,
     }
 }

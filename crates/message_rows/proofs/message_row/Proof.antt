@@ -12,11 +12,11 @@ use Rattle.message_rows.proofs.message_row.Tie as tie
 enum-known-m : tie.Need-enum-known-m
 enum-known-m c = search needs
 
-cast-t111 : tie.Need-cast-t111
-cast-t111 c = search needs
+cast-t120 : tie.Need-cast-t120
+cast-t120 c = search needs
 
-cast-t112 : tie.Need-cast-t112
-cast-t112 c = search needs
+cast-t121 : tie.Need-cast-t121
+cast-t121 c = search needs
 
 row-requires : tie.Need-row-requires
 row-requires c κs = search needs
@@ -24,11 +24,11 @@ row-requires c κs = search needs
 enum-known-m-2 : tie.Need-enum-known-m-2
 enum-known-m-2 c = search needs
 
-cast-t114 : tie.Need-cast-t114
-cast-t114 c = search needs
+cast-t123 : tie.Need-cast-t123
+cast-t123 c = search needs
 
-cast-t115 : tie.Need-cast-t115
-cast-t115 c = search needs
+cast-t124 : tie.Need-cast-t124
+cast-t124 c = search needs
 
 row-requires-2 : tie.Need-row-requires-2
 row-requires-2 c κs = search needs
@@ -36,14 +36,14 @@ row-requires-2 c κs = search needs
 enum-known-m-3 : tie.Need-enum-known-m-3
 enum-known-m-3 c = search needs
 
-cast-t117 : tie.Need-cast-t117
-cast-t117 c = search needs
+cast-t126 : tie.Need-cast-t126
+cast-t126 c = search needs
 
-cast-t118 : tie.Need-cast-t118
-cast-t118 c = search needs
+cast-t127 : tie.Need-cast-t127
+cast-t127 c = search needs
 
-cast-t119 : tie.Need-cast-t119
-cast-t119 c = search needs
+cast-t128 : tie.Need-cast-t128
+cast-t128 c = search needs
 
 row-requires-3 : tie.Need-row-requires-3
 row-requires-3 c κs = search needs
@@ -51,8 +51,8 @@ row-requires-3 c κs = search needs
 enum-known-m-4 : tie.Need-enum-known-m-4
 enum-known-m-4 c = search needs
 
-cast-t121 : tie.Need-cast-t121
-cast-t121 c = search needs
+cast-t130 : tie.Need-cast-t130
+cast-t130 c = search needs
 
 cast-signed : tie.Need-cast-signed
 cast-signed c =
@@ -68,11 +68,11 @@ row-requires-4 c κs = search needs
 enum-known-m-5 : tie.Need-enum-known-m-5
 enum-known-m-5 c = search needs
 
-cast-t125 : tie.Need-cast-t125
-cast-t125 c = search needs
+cast-t134 : tie.Need-cast-t134
+cast-t134 c = search needs
 
-cast-t126 : tie.Need-cast-t126
-cast-t126 c = search needs
+cast-t135 : tie.Need-cast-t135
+cast-t135 c = search needs
 
 signed-requires-2 : tie.Need-signed-requires-2
 signed-requires-2 c κs = search needs
@@ -83,11 +83,11 @@ row-requires-5 c κs = search needs
 enum-known-m-6 : tie.Need-enum-known-m-6
 enum-known-m-6 c = search needs
 
-cast-t129 : tie.Need-cast-t129
-cast-t129 c = search needs
+cast-t138 : tie.Need-cast-t138
+cast-t138 c = search needs
 
-cast-t130 : tie.Need-cast-t130
-cast-t130 c = search needs
+cast-t139 : tie.Need-cast-t139
+cast-t139 c = search needs
 
 row-requires-6 : tie.Need-row-requires-6
 row-requires-6 c κs = search needs
@@ -95,11 +95,11 @@ row-requires-6 c κs = search needs
 enum-known-m-7 : tie.Need-enum-known-m-7
 enum-known-m-7 c = search needs
 
-cast-t132 : tie.Need-cast-t132
-cast-t132 c = search needs
+cast-t141 : tie.Need-cast-t141
+cast-t141 c = search needs
 
-cast-t133 : tie.Need-cast-t133
-cast-t133 c = search needs
+cast-t142 : tie.Need-cast-t142
+cast-t142 c = search needs
 
 row-requires-7 : tie.Need-row-requires-7
 row-requires-7 c κs = search needs
@@ -107,8 +107,8 @@ row-requires-7 c κs = search needs
 enum-known-m-8 : tie.Need-enum-known-m-8
 enum-known-m-8 c = search needs
 
-cast-t135 : tie.Need-cast-t135
-cast-t135 c = search needs
+cast-t144 : tie.Need-cast-t144
+cast-t144 c = search needs
 
 row-requires-8 : tie.Need-row-requires-8
 row-requires-8 c κs = search needs
@@ -116,11 +116,11 @@ row-requires-8 c κs = search needs
 enum-known-m-9 : tie.Need-enum-known-m-9
 enum-known-m-9 c = search needs
 
-cast-t137 : tie.Need-cast-t137
-cast-t137 c = search needs
+cast-t146 : tie.Need-cast-t146
+cast-t146 c = search needs
 
-cast-t138 : tie.Need-cast-t138
-cast-t138 c = search needs
+cast-t147 : tie.Need-cast-t147
+cast-t147 c = search needs
 
 row-requires-9 : tie.Need-row-requires-9
 row-requires-9 c κs = search needs
@@ -128,11 +128,11 @@ row-requires-9 c κs = search needs
 enum-known-m-10 : tie.Need-enum-known-m-10
 enum-known-m-10 c = search needs
 
-cast-t140 : tie.Need-cast-t140
-cast-t140 c = search needs
+cast-t149 : tie.Need-cast-t149
+cast-t149 c = search needs
 
-cast-t141 : tie.Need-cast-t141
-cast-t141 c = search needs
+cast-t150 : tie.Need-cast-t150
+cast-t150 c = search needs
 
 row-requires-10 : tie.Need-row-requires-10
 row-requires-10 c κs = search needs
@@ -140,8 +140,8 @@ row-requires-10 c κs = search needs
 enum-known-m-11 : tie.Need-enum-known-m-11
 enum-known-m-11 c = search needs
 
-cast-t143 : tie.Need-cast-t143
-cast-t143 c = search needs
+cast-t152 : tie.Need-cast-t152
+cast-t152 c = search needs
 
 row-requires-11 : tie.Need-row-requires-11
 row-requires-11 c κs = search needs
@@ -149,11 +149,11 @@ row-requires-11 c κs = search needs
 enum-known-m-12 : tie.Need-enum-known-m-12
 enum-known-m-12 c = search needs
 
-cast-t145 : tie.Need-cast-t145
-cast-t145 c = search needs
+cast-t154 : tie.Need-cast-t154
+cast-t154 c = search needs
 
-cast-t146 : tie.Need-cast-t146
-cast-t146 c = search needs
+cast-t155 : tie.Need-cast-t155
+cast-t155 c = search needs
 
 signed-requires-3 : tie.Need-signed-requires-3
 signed-requires-3 c κs = search needs
@@ -167,17 +167,17 @@ row-requires-12 c κs = search needs
 enum-known-m-13 : tie.Need-enum-known-m-13
 enum-known-m-13 c = search needs
 
-cast-t150 : tie.Need-cast-t150
-cast-t150 c = search needs
+cast-t159 : tie.Need-cast-t159
+cast-t159 c = search needs
 
-cast-t151 : tie.Need-cast-t151
-cast-t151 c = search needs
+cast-t160 : tie.Need-cast-t160
+cast-t160 c = search needs
 
-cast-t152 : tie.Need-cast-t152
-cast-t152 c = search needs
+cast-t161 : tie.Need-cast-t161
+cast-t161 c = search needs
 
-cast-t153 : tie.Need-cast-t153
-cast-t153 c = search needs
+cast-t162 : tie.Need-cast-t162
+cast-t162 c = search needs
 
 row-requires-13 : tie.Need-row-requires-13
 row-requires-13 c κs = search needs
@@ -185,11 +185,11 @@ row-requires-13 c κs = search needs
 enum-known-m-14 : tie.Need-enum-known-m-14
 enum-known-m-14 c = search needs
 
-cast-t155 : tie.Need-cast-t155
-cast-t155 c = search needs
+cast-t164 : tie.Need-cast-t164
+cast-t164 c = search needs
 
-cast-t156 : tie.Need-cast-t156
-cast-t156 c = search needs
+cast-t165 : tie.Need-cast-t165
+cast-t165 c = search needs
 
 row-requires-14 : tie.Need-row-requires-14
 row-requires-14 c κs = search needs
@@ -215,8 +215,8 @@ row-requires-17 c κs = search needs
 enum-known-m-15 : tie.Need-enum-known-m-15
 enum-known-m-15 c = search needs
 
-cast-t161 : tie.Need-cast-t161
-cast-t161 c = search needs
+cast-t170 : tie.Need-cast-t170
+cast-t170 c = search needs
 
 row-requires-18 : tie.Need-row-requires-18
 row-requires-18 c κs = search needs
@@ -224,50 +224,17 @@ row-requires-18 c κs = search needs
 enum-known-m-16 : tie.Need-enum-known-m-16
 enum-known-m-16 c = search needs
 
-cast-t163 : tie.Need-cast-t163
-cast-t163 c = search needs
-
-cast-t164 : tie.Need-cast-t164
-cast-t164 c = search needs
-
-row-requires-19 : tie.Need-row-requires-19
-row-requires-19 c κs = search needs
-
-enum-known-m-17 : tie.Need-enum-known-m-17
-enum-known-m-17 c = search needs
-
-cast-t166 : tie.Need-cast-t166
-cast-t166 c = search needs
-
-cast-t167 : tie.Need-cast-t167
-cast-t167 c = search needs
-
-cast-t168 : tie.Need-cast-t168
-cast-t168 c = search needs
-
-row-requires-20 : tie.Need-row-requires-20
-row-requires-20 c κs = search needs
-
-enum-known-m-18 : tie.Need-enum-known-m-18
-enum-known-m-18 c = search needs
-
-cast-t170 : tie.Need-cast-t170
-cast-t170 c = search needs
-
-cast-t171 : tie.Need-cast-t171
-cast-t171 c = search needs
-
 cast-t172 : tie.Need-cast-t172
 cast-t172 c = search needs
 
 cast-t173 : tie.Need-cast-t173
 cast-t173 c = search needs
 
-row-requires-21 : tie.Need-row-requires-21
-row-requires-21 c κs = search needs
+row-requires-19 : tie.Need-row-requires-19
+row-requires-19 c κs = search needs
 
-enum-known-m-19 : tie.Need-enum-known-m-19
-enum-known-m-19 c = search needs
+enum-known-m-17 : tie.Need-enum-known-m-17
+enum-known-m-17 c = search needs
 
 cast-t175 : tie.Need-cast-t175
 cast-t175 c = search needs
@@ -278,17 +245,17 @@ cast-t176 c = search needs
 cast-t177 : tie.Need-cast-t177
 cast-t177 c = search needs
 
-cast-t178 : tie.Need-cast-t178
-cast-t178 c = search needs
+row-requires-20 : tie.Need-row-requires-20
+row-requires-20 c κs = search needs
+
+enum-known-m-18 : tie.Need-enum-known-m-18
+enum-known-m-18 c = search needs
 
 cast-t179 : tie.Need-cast-t179
 cast-t179 c = search needs
 
-row-requires-22 : tie.Need-row-requires-22
-row-requires-22 c κs = search needs
-
-enum-known-m-20 : tie.Need-enum-known-m-20
-enum-known-m-20 c = search needs
+cast-t180 : tie.Need-cast-t180
+cast-t180 c = search needs
 
 cast-t181 : tie.Need-cast-t181
 cast-t181 c = search needs
@@ -296,8 +263,11 @@ cast-t181 c = search needs
 cast-t182 : tie.Need-cast-t182
 cast-t182 c = search needs
 
-cast-t183 : tie.Need-cast-t183
-cast-t183 c = search needs
+row-requires-21 : tie.Need-row-requires-21
+row-requires-21 c κs = search needs
+
+enum-known-m-19 : tie.Need-enum-known-m-19
+enum-known-m-19 c = search needs
 
 cast-t184 : tie.Need-cast-t184
 cast-t184 c = search needs
@@ -314,14 +284,14 @@ cast-t187 c = search needs
 cast-t188 : tie.Need-cast-t188
 cast-t188 c = search needs
 
-cast-t189 : tie.Need-cast-t189
-cast-t189 c = search needs
+row-requires-22 : tie.Need-row-requires-22
+row-requires-22 c κs = search needs
+
+enum-known-m-20 : tie.Need-enum-known-m-20
+enum-known-m-20 c = search needs
 
 cast-t190 : tie.Need-cast-t190
 cast-t190 c = search needs
-
-enum-known-m-21 : tie.Need-enum-known-m-21
-enum-known-m-21 c = search needs
 
 cast-t191 : tie.Need-cast-t191
 cast-t191 c = search needs
@@ -332,11 +302,8 @@ cast-t192 c = search needs
 cast-t193 : tie.Need-cast-t193
 cast-t193 c = search needs
 
-row-requires-23 : tie.Need-row-requires-23
-row-requires-23 c κs = search needs
-
-enum-known-m-22 : tie.Need-enum-known-m-22
-enum-known-m-22 c = search needs
+cast-t194 : tie.Need-cast-t194
+cast-t194 c = search needs
 
 cast-t195 : tie.Need-cast-t195
 cast-t195 c = search needs
@@ -346,6 +313,39 @@ cast-t196 c = search needs
 
 cast-t197 : tie.Need-cast-t197
 cast-t197 c = search needs
+
+cast-t198 : tie.Need-cast-t198
+cast-t198 c = search needs
+
+cast-t199 : tie.Need-cast-t199
+cast-t199 c = search needs
+
+enum-known-m-21 : tie.Need-enum-known-m-21
+enum-known-m-21 c = search needs
+
+cast-t200 : tie.Need-cast-t200
+cast-t200 c = search needs
+
+cast-t201 : tie.Need-cast-t201
+cast-t201 c = search needs
+
+cast-t202 : tie.Need-cast-t202
+cast-t202 c = search needs
+
+row-requires-23 : tie.Need-row-requires-23
+row-requires-23 c κs = search needs
+
+enum-known-m-22 : tie.Need-enum-known-m-22
+enum-known-m-22 c = search needs
+
+cast-t204 : tie.Need-cast-t204
+cast-t204 c = search needs
+
+cast-t205 : tie.Need-cast-t205
+cast-t205 c = search needs
+
+cast-t206 : tie.Need-cast-t206
+cast-t206 c = search needs
 
 float-requires : tie.Need-float-requires
 float-requires c κs = search needs
@@ -359,53 +359,20 @@ row-requires-24 c κs = search needs
 enum-known-m-23 : tie.Need-enum-known-m-23
 enum-known-m-23 c = search needs
 
-cast-t201 : tie.Need-cast-t201
-cast-t201 c = search needs
+cast-t210 : tie.Need-cast-t210
+cast-t210 c = search needs
 
-cast-t202 : tie.Need-cast-t202
-cast-t202 c = search needs
+cast-t211 : tie.Need-cast-t211
+cast-t211 c = search needs
 
-cast-t203 : tie.Need-cast-t203
-cast-t203 c = search needs
+cast-t212 : tie.Need-cast-t212
+cast-t212 c = search needs
 
 row-requires-25 : tie.Need-row-requires-25
 row-requires-25 c κs = search needs
 
 enum-known-m-24 : tie.Need-enum-known-m-24
 enum-known-m-24 c = search needs
-
-cast-t205 : tie.Need-cast-t205
-cast-t205 c = search needs
-
-cast-t206 : tie.Need-cast-t206
-cast-t206 c = search needs
-
-cast-t207 : tie.Need-cast-t207
-cast-t207 c = search needs
-
-row-requires-26 : tie.Need-row-requires-26
-row-requires-26 c κs = search needs
-
-enum-known-m-25 : tie.Need-enum-known-m-25
-enum-known-m-25 c = search needs
-
-cast-t209 : tie.Need-cast-t209
-cast-t209 c = search needs
-
-cast-t210 : tie.Need-cast-t210
-cast-t210 c = search needs
-
-row-requires-27 : tie.Need-row-requires-27
-row-requires-27 c κs = search needs
-
-enum-known-m-26 : tie.Need-enum-known-m-26
-enum-known-m-26 c = search needs
-
-cast-t212 : tie.Need-cast-t212
-cast-t212 c = search needs
-
-cast-t213 : tie.Need-cast-t213
-cast-t213 c = search needs
 
 cast-t214 : tie.Need-cast-t214
 cast-t214 c = search needs
@@ -416,23 +383,23 @@ cast-t215 c = search needs
 cast-t216 : tie.Need-cast-t216
 cast-t216 c = search needs
 
-cast-t217 : tie.Need-cast-t217
-cast-t217 c = search needs
+row-requires-26 : tie.Need-row-requires-26
+row-requires-26 c κs = search needs
 
-row-requires-28 : tie.Need-row-requires-28
-row-requires-28 c κs = search needs
+enum-known-m-25 : tie.Need-enum-known-m-25
+enum-known-m-25 c = search needs
 
-enum-known-m-27 : tie.Need-enum-known-m-27
-enum-known-m-27 c = search needs
+cast-t218 : tie.Need-cast-t218
+cast-t218 c = search needs
 
 cast-t219 : tie.Need-cast-t219
 cast-t219 c = search needs
 
-row-requires-29 : tie.Need-row-requires-29
-row-requires-29 c κs = search needs
+row-requires-27 : tie.Need-row-requires-27
+row-requires-27 c κs = search needs
 
-enum-known-m-28 : tie.Need-enum-known-m-28
-enum-known-m-28 c = search needs
+enum-known-m-26 : tie.Need-enum-known-m-26
+enum-known-m-26 c = search needs
 
 cast-t221 : tie.Need-cast-t221
 cast-t221 c = search needs
@@ -446,14 +413,47 @@ cast-t223 c = search needs
 cast-t224 : tie.Need-cast-t224
 cast-t224 c = search needs
 
+cast-t225 : tie.Need-cast-t225
+cast-t225 c = search needs
+
+cast-t226 : tie.Need-cast-t226
+cast-t226 c = search needs
+
+row-requires-28 : tie.Need-row-requires-28
+row-requires-28 c κs = search needs
+
+enum-known-m-27 : tie.Need-enum-known-m-27
+enum-known-m-27 c = search needs
+
+cast-t228 : tie.Need-cast-t228
+cast-t228 c = search needs
+
+row-requires-29 : tie.Need-row-requires-29
+row-requires-29 c κs = search needs
+
+enum-known-m-28 : tie.Need-enum-known-m-28
+enum-known-m-28 c = search needs
+
+cast-t230 : tie.Need-cast-t230
+cast-t230 c = search needs
+
+cast-t231 : tie.Need-cast-t231
+cast-t231 c = search needs
+
+cast-t232 : tie.Need-cast-t232
+cast-t232 c = search needs
+
+cast-t233 : tie.Need-cast-t233
+cast-t233 c = search needs
+
 row-requires-30 : tie.Need-row-requires-30
 row-requires-30 c κs = search needs
 
 enum-known-m-29 : tie.Need-enum-known-m-29
 enum-known-m-29 c = search needs
 
-cast-t226 : tie.Need-cast-t226
-cast-t226 c = search needs
+cast-t235 : tie.Need-cast-t235
+cast-t235 c = search needs
 
 row-requires-31 : tie.Need-row-requires-31
 row-requires-31 c κs = search needs
@@ -461,11 +461,11 @@ row-requires-31 c κs = search needs
 enum-known-m-30 : tie.Need-enum-known-m-30
 enum-known-m-30 c = search needs
 
-cast-t228 : tie.Need-cast-t228
-cast-t228 c = search needs
+cast-t237 : tie.Need-cast-t237
+cast-t237 c = search needs
 
-cast-t229 : tie.Need-cast-t229
-cast-t229 c = search needs
+cast-t238 : tie.Need-cast-t238
+cast-t238 c = search needs
 
 row-requires-32 : tie.Need-row-requires-32
 row-requires-32 c κs = search needs
@@ -473,11 +473,11 @@ row-requires-32 c κs = search needs
 enum-known-m-31 : tie.Need-enum-known-m-31
 enum-known-m-31 c = search needs
 
-cast-t231 : tie.Need-cast-t231
-cast-t231 c = search needs
+cast-t240 : tie.Need-cast-t240
+cast-t240 c = search needs
 
-cast-t232 : tie.Need-cast-t232
-cast-t232 c = search needs
+cast-t241 : tie.Need-cast-t241
+cast-t241 c = search needs
 
 signed-requires-5 : tie.Need-signed-requires-5
 signed-requires-5 c κs = search needs
@@ -500,41 +500,8 @@ cast-signed-3 c =
 signed-requires-7 : tie.Need-signed-requires-7
 signed-requires-7 c κs = search needs
 
-cast-t238 : tie.Need-cast-t238
-cast-t238 c = search needs
-
-cast-t239 : tie.Need-cast-t239
-cast-t239 c = search needs
-
-cast-t240 : tie.Need-cast-t240
-cast-t240 c = search needs
-
-enum-known-m-32 : tie.Need-enum-known-m-32
-enum-known-m-32 c = search needs
-
-cast-t241 : tie.Need-cast-t241
-cast-t241 c = search needs
-
-cast-t242 : tie.Need-cast-t242
-cast-t242 c = search needs
-
-signed-requires-8 : tie.Need-signed-requires-8
-signed-requires-8 c κs = search needs
-
-cast-t244 : tie.Need-cast-t244
-cast-t244 c = search needs
-
-cast-t245 : tie.Need-cast-t245
-cast-t245 c = search needs
-
-cast-t246 : tie.Need-cast-t246
-cast-t246 c = search needs
-
 cast-t247 : tie.Need-cast-t247
 cast-t247 c = search needs
-
-enum-known-m-33 : tie.Need-enum-known-m-33
-enum-known-m-33 c = search needs
 
 cast-t248 : tie.Need-cast-t248
 cast-t248 c = search needs
@@ -542,14 +509,17 @@ cast-t248 c = search needs
 cast-t249 : tie.Need-cast-t249
 cast-t249 c = search needs
 
-signed-requires-9 : tie.Need-signed-requires-9
-signed-requires-9 c κs = search needs
+enum-known-m-32 : tie.Need-enum-known-m-32
+enum-known-m-32 c = search needs
 
-signed-requires-10 : tie.Need-signed-requires-10
-signed-requires-10 c κs = search needs
+cast-t250 : tie.Need-cast-t250
+cast-t250 c = search needs
 
-cast-t252 : tie.Need-cast-t252
-cast-t252 c = search needs
+cast-t251 : tie.Need-cast-t251
+cast-t251 c = search needs
+
+signed-requires-8 : tie.Need-signed-requires-8
+signed-requires-8 c κs = search needs
 
 cast-t253 : tie.Need-cast-t253
 cast-t253 c = search needs
@@ -560,14 +530,44 @@ cast-t254 c = search needs
 cast-t255 : tie.Need-cast-t255
 cast-t255 c = search needs
 
-enum-known-m-34 : tie.Need-enum-known-m-34
-enum-known-m-34 c = search needs
-
 cast-t256 : tie.Need-cast-t256
 cast-t256 c = search needs
 
+enum-known-m-33 : tie.Need-enum-known-m-33
+enum-known-m-33 c = search needs
+
 cast-t257 : tie.Need-cast-t257
 cast-t257 c = search needs
+
+cast-t258 : tie.Need-cast-t258
+cast-t258 c = search needs
+
+signed-requires-9 : tie.Need-signed-requires-9
+signed-requires-9 c κs = search needs
+
+signed-requires-10 : tie.Need-signed-requires-10
+signed-requires-10 c κs = search needs
+
+cast-t261 : tie.Need-cast-t261
+cast-t261 c = search needs
+
+cast-t262 : tie.Need-cast-t262
+cast-t262 c = search needs
+
+cast-t263 : tie.Need-cast-t263
+cast-t263 c = search needs
+
+cast-t264 : tie.Need-cast-t264
+cast-t264 c = search needs
+
+enum-known-m-34 : tie.Need-enum-known-m-34
+enum-known-m-34 c = search needs
+
+cast-t265 : tie.Need-cast-t265
+cast-t265 c = search needs
+
+cast-t266 : tie.Need-cast-t266
+cast-t266 c = search needs
 
 signed-requires-11 : tie.Need-signed-requires-11
 signed-requires-11 c κs = search needs
@@ -583,6 +583,57 @@ enum-told-4 c = search needs
 
 row-requires-34 : tie.Need-row-requires-34
 row-requires-34 c κs = search needs
+
+enum-known-m-35 : tie.Need-enum-known-m-35
+enum-known-m-35 c = search needs
+
+cast-t271 : tie.Need-cast-t271
+cast-t271 c = search needs
+
+cast-t272 : tie.Need-cast-t272
+cast-t272 c = search needs
+
+row-requires-35 : tie.Need-row-requires-35
+row-requires-35 c κs = search needs
+
+enum-known-m-36 : tie.Need-enum-known-m-36
+enum-known-m-36 c = search needs
+
+cast-t274 : tie.Need-cast-t274
+cast-t274 c = search needs
+
+cast-t275 : tie.Need-cast-t275
+cast-t275 c = search needs
+
+row-requires-36 : tie.Need-row-requires-36
+row-requires-36 c κs = search needs
+
+enum-known-m-37 : tie.Need-enum-known-m-37
+enum-known-m-37 c = search needs
+
+cast-t277 : tie.Need-cast-t277
+cast-t277 c = search needs
+
+cast-t278 : tie.Need-cast-t278
+cast-t278 c = search needs
+
+row-requires-37 : tie.Need-row-requires-37
+row-requires-37 c κs = search needs
+
+enum-known-m-38 : tie.Need-enum-known-m-38
+enum-known-m-38 c = search needs
+
+cast-t280 : tie.Need-cast-t280
+cast-t280 c = search needs
+
+cast-t281 : tie.Need-cast-t281
+cast-t281 c = search needs
+
+cast-t282 : tie.Need-cast-t282
+cast-t282 c = search needs
+
+row-requires-38 : tie.Need-row-requires-38
+row-requires-38 c κs = search needs
 
 returns : tie.Need-returns
 returns c = in-row (c .before .before .m .given .1) (c .row .ensures) refl
@@ -727,70 +778,82 @@ returns-37 c =
 returns-38 : tie.Need-returns-38
 returns-38 c = in-row (c .before .enum-told4 .given .1) (c .row34 .ensures) refl
 
+returns-39 : tie.Need-returns-39
+returns-39 c = in-row (c .before .before .m35 .given .1) (c .row35 .ensures) refl
+
+returns-40 : tie.Need-returns-40
+returns-40 c = in-row (c .before .before .m36 .given .1) (c .row36 .ensures) refl
+
+returns-41 : tie.Need-returns-41
+returns-41 c = in-row (c .before .before .m37 .given .1) (c .row37 .ensures) refl
+
+returns-42 : tie.Need-returns-42
+returns-42 c = in-row (c .before .before .m38 .given .1) (c .row38 .ensures) refl
+
 pub message-row-spec : {M : Type 1} → statement M
 message-row-spec =
     tie.close
     (tie.spec
     enum-known-m
-    cast-t111
-    cast-t112
+    cast-t120
+    cast-t121
     row-requires
     enum-known-m-2
-    cast-t114
-    cast-t115
+    cast-t123
+    cast-t124
     row-requires-2
     enum-known-m-3
-    cast-t117
-    cast-t118
-    cast-t119
+    cast-t126
+    cast-t127
+    cast-t128
     row-requires-3
     enum-known-m-4
-    cast-t121
+    cast-t130
     cast-signed
     signed-requires
     row-requires-4
     enum-known-m-5
-    cast-t125
-    cast-t126
+    cast-t134
+    cast-t135
     signed-requires-2
     row-requires-5
     enum-known-m-6
-    cast-t129
-    cast-t130
+    cast-t138
+    cast-t139
     row-requires-6
     enum-known-m-7
-    cast-t132
-    cast-t133
+    cast-t141
+    cast-t142
     row-requires-7
     enum-known-m-8
-    cast-t135
+    cast-t144
     row-requires-8
     enum-known-m-9
-    cast-t137
-    cast-t138
+    cast-t146
+    cast-t147
     row-requires-9
     enum-known-m-10
-    cast-t140
-    cast-t141
+    cast-t149
+    cast-t150
     row-requires-10
     enum-known-m-11
-    cast-t143
+    cast-t152
     row-requires-11
     enum-known-m-12
-    cast-t145
-    cast-t146
+    cast-t154
+    cast-t155
     signed-requires-3
     signed-requires-4
     row-requires-12
     enum-known-m-13
-    cast-t150
-    cast-t151
-    cast-t152
-    cast-t153
+    cast-t159
+    cast-t160
+    cast-t161
+    cast-t162
     row-requires-13
     enum-known-m-14
-    cast-t155
-    cast-t156
+    cast-t164
+    cast-t165
     row-requires-14
     enum-told
     row-requires-15
@@ -799,127 +862,144 @@ message-row-spec =
     enum-told-3
     row-requires-17
     enum-known-m-15
-    cast-t161
+    cast-t170
     row-requires-18
     enum-known-m-16
-    cast-t163
-    cast-t164
-    row-requires-19
-    enum-known-m-17
-    cast-t166
-    cast-t167
-    cast-t168
-    row-requires-20
-    enum-known-m-18
-    cast-t170
-    cast-t171
     cast-t172
     cast-t173
-    row-requires-21
-    enum-known-m-19
+    row-requires-19
+    enum-known-m-17
     cast-t175
     cast-t176
     cast-t177
-    cast-t178
+    row-requires-20
+    enum-known-m-18
     cast-t179
-    row-requires-22
-    enum-known-m-20
+    cast-t180
     cast-t181
     cast-t182
-    cast-t183
+    row-requires-21
+    enum-known-m-19
     cast-t184
     cast-t185
     cast-t186
     cast-t187
     cast-t188
-    cast-t189
+    row-requires-22
+    enum-known-m-20
     cast-t190
-    enum-known-m-21
     cast-t191
     cast-t192
     cast-t193
-    row-requires-23
-    enum-known-m-22
+    cast-t194
     cast-t195
     cast-t196
     cast-t197
+    cast-t198
+    cast-t199
+    enum-known-m-21
+    cast-t200
+    cast-t201
+    cast-t202
+    row-requires-23
+    enum-known-m-22
+    cast-t204
+    cast-t205
+    cast-t206
     float-requires
     float-requires-2
     row-requires-24
     enum-known-m-23
-    cast-t201
-    cast-t202
-    cast-t203
+    cast-t210
+    cast-t211
+    cast-t212
     row-requires-25
     enum-known-m-24
-    cast-t205
-    cast-t206
-    cast-t207
-    row-requires-26
-    enum-known-m-25
-    cast-t209
-    cast-t210
-    row-requires-27
-    enum-known-m-26
-    cast-t212
-    cast-t213
     cast-t214
     cast-t215
     cast-t216
-    cast-t217
-    row-requires-28
-    enum-known-m-27
+    row-requires-26
+    enum-known-m-25
+    cast-t218
     cast-t219
-    row-requires-29
-    enum-known-m-28
+    row-requires-27
+    enum-known-m-26
     cast-t221
     cast-t222
     cast-t223
     cast-t224
-    row-requires-30
-    enum-known-m-29
+    cast-t225
     cast-t226
-    row-requires-31
-    enum-known-m-30
+    row-requires-28
+    enum-known-m-27
     cast-t228
-    cast-t229
-    row-requires-32
-    enum-known-m-31
+    row-requires-29
+    enum-known-m-28
+    cast-t230
     cast-t231
     cast-t232
+    cast-t233
+    row-requires-30
+    enum-known-m-29
+    cast-t235
+    row-requires-31
+    enum-known-m-30
+    cast-t237
+    cast-t238
+    row-requires-32
+    enum-known-m-31
+    cast-t240
+    cast-t241
     signed-requires-5
     cast-signed-2
     signed-requires-6
     cast-signed-3
     signed-requires-7
-    cast-t238
-    cast-t239
-    cast-t240
-    enum-known-m-32
-    cast-t241
-    cast-t242
-    signed-requires-8
-    cast-t244
-    cast-t245
-    cast-t246
     cast-t247
-    enum-known-m-33
     cast-t248
     cast-t249
-    signed-requires-9
-    signed-requires-10
-    cast-t252
+    enum-known-m-32
+    cast-t250
+    cast-t251
+    signed-requires-8
     cast-t253
     cast-t254
     cast-t255
-    enum-known-m-34
     cast-t256
+    enum-known-m-33
     cast-t257
+    cast-t258
+    signed-requires-9
+    signed-requires-10
+    cast-t261
+    cast-t262
+    cast-t263
+    cast-t264
+    enum-known-m-34
+    cast-t265
+    cast-t266
     signed-requires-11
     signed-requires-12
     row-requires-33
     enum-told-4
     row-requires-34
+    enum-known-m-35
+    cast-t271
+    cast-t272
+    row-requires-35
+    enum-known-m-36
+    cast-t274
+    cast-t275
+    row-requires-36
+    enum-known-m-37
+    cast-t277
+    cast-t278
+    row-requires-37
+    enum-known-m-38
+    cast-t280
+    cast-t281
+    cast-t282
+    row-requires-38
     returns
     returns-2
     returns-3
@@ -957,4 +1037,8 @@ message-row-spec =
     returns-35
     returns-36
     returns-37
-    returns-38)
+    returns-38
+    returns-39
+    returns-40
+    returns-41
+    returns-42)

@@ -123,8 +123,23 @@ goes-down-requires-6 c κs = search needs
 goes-up-requires-15 : tie.Need-goes-up-requires-15
 goes-up-requires-15 c κs = search needs
 
+is-setup-requires : tie.Need-is-setup-requires
+is-setup-requires c κs = search needs
+
 goes-down-requires-7 : tie.Need-goes-down-requires-7
 goes-down-requires-7 c κs = search needs
+
+goes-down-requires-8 : tie.Need-goes-down-requires-8
+goes-down-requires-8 c κs = search needs
+
+goes-up-requires-16 : tie.Need-goes-up-requires-16
+goes-up-requires-16 c κs = search needs
+
+goes-up-requires-17 : tie.Need-goes-up-requires-17
+goes-up-requires-17 c κs = search needs
+
+goes-down-requires-9 : tie.Need-goes-down-requires-9
+goes-down-requires-9 c κs = search needs
 
 returns : tie.Need-returns
 unfolding formAt
@@ -333,43 +348,71 @@ returns-34 c =
 returns-35 : tie.Need-returns-35
 unfolding formAt
 returns-35 c =
+    let a = c .before .before .before .args in
+    numbered (a .form) 39 (a .way) (a .a) (a .b) (a .c) _ (c .before .before .match .keys35) (c .goes-down7 .ensures ∙ ap (λ (l : Bool). downOnly (a .way) l 4) (c .before .is-setup .ensures))
+
+returns-36 : tie.Need-returns-36
+unfolding formAt
+returns-36 c =
     let a = c .before .before .args in
-    let ne1 = c .before .match .rest .0 .0 .0 .0 .0 .0 .0 .0 .0 .0 .0 .0 .0 .0 .0 .0 .0 .0 .0 .0 .0 .0 .0 .0 .0 .0 .0 .0 .0 .0 .0 .0 .0 .1 in
-    let ne2 = c .before .match .rest .0 .0 .0 .0 .0 .0 .0 .0 .0 .0 .0 .0 .0 .0 .0 .0 .0 .0 .0 .0 .0 .0 .0 .0 .0 .0 .0 .0 .0 .0 .0 .0 .1 in
-    let ne3 = c .before .match .rest .0 .0 .0 .0 .0 .0 .0 .0 .0 .0 .0 .0 .0 .0 .0 .0 .0 .0 .0 .0 .0 .0 .0 .0 .0 .0 .0 .0 .0 .0 .0 .1 in
-    let ne4 = c .before .match .rest .0 .0 .0 .0 .0 .0 .0 .0 .0 .0 .0 .0 .0 .0 .0 .0 .0 .0 .0 .0 .0 .0 .0 .0 .0 .0 .0 .0 .0 .0 .1 in
-    let ne5 = c .before .match .rest .0 .0 .0 .0 .0 .0 .0 .0 .0 .0 .0 .0 .0 .0 .0 .0 .0 .0 .0 .0 .0 .0 .0 .0 .0 .0 .0 .0 .0 .1 in
-    let ne6 = c .before .match .rest .0 .0 .0 .0 .0 .0 .0 .0 .0 .0 .0 .0 .0 .0 .0 .0 .0 .0 .0 .0 .0 .0 .0 .0 .0 .0 .0 .0 .1 in
-    let ne7 = c .before .match .rest .0 .0 .0 .0 .0 .0 .0 .0 .0 .0 .0 .0 .0 .0 .0 .0 .0 .0 .0 .0 .0 .0 .0 .0 .0 .0 .0 .1 in
-    let ne8 = c .before .match .rest .0 .0 .0 .0 .0 .0 .0 .0 .0 .0 .0 .0 .0 .0 .0 .0 .0 .0 .0 .0 .0 .0 .0 .0 .0 .0 .1 in
-    let ne9 = c .before .match .rest .0 .0 .0 .0 .0 .0 .0 .0 .0 .0 .0 .0 .0 .0 .0 .0 .0 .0 .0 .0 .0 .0 .0 .0 .0 .1 in
-    let ne10 = c .before .match .rest .0 .0 .0 .0 .0 .0 .0 .0 .0 .0 .0 .0 .0 .0 .0 .0 .0 .0 .0 .0 .0 .0 .0 .0 .1 in
-    let ne11 = c .before .match .rest .0 .0 .0 .0 .0 .0 .0 .0 .0 .0 .0 .0 .0 .0 .0 .0 .0 .0 .0 .0 .0 .0 .0 .1 in
-    let ne12 = c .before .match .rest .0 .0 .0 .0 .0 .0 .0 .0 .0 .0 .0 .0 .0 .0 .0 .0 .0 .0 .0 .0 .0 .0 .1 in
-    let ne13 = c .before .match .rest .0 .0 .0 .0 .0 .0 .0 .0 .0 .0 .0 .0 .0 .0 .0 .0 .0 .0 .0 .0 .0 .1 in
-    let ne14 = c .before .match .rest .0 .0 .0 .0 .0 .0 .0 .0 .0 .0 .0 .0 .0 .0 .0 .0 .0 .0 .0 .0 .1 in
-    let ne16 = c .before .match .rest .0 .0 .0 .0 .0 .0 .0 .0 .0 .0 .0 .0 .0 .0 .0 .0 .0 .0 .0 .1 in
-    let ne17 = c .before .match .rest .0 .0 .0 .0 .0 .0 .0 .0 .0 .0 .0 .0 .0 .0 .0 .0 .0 .0 .1 in
-    let ne18 = c .before .match .rest .0 .0 .0 .0 .0 .0 .0 .0 .0 .0 .0 .0 .0 .0 .0 .0 .0 .1 in
-    let ne22 = c .before .match .rest .0 .0 .0 .0 .0 .0 .0 .0 .0 .0 .0 .0 .0 .0 .0 .0 .1 in
-    let ne23 = c .before .match .rest .0 .0 .0 .0 .0 .0 .0 .0 .0 .0 .0 .0 .0 .0 .0 .1 in
-    let ne24 = c .before .match .rest .0 .0 .0 .0 .0 .0 .0 .0 .0 .0 .0 .0 .0 .0 .1 in
-    let ne25 = c .before .match .rest .0 .0 .0 .0 .0 .0 .0 .0 .0 .0 .0 .0 .0 .1 in
-    let ne26 = c .before .match .rest .0 .0 .0 .0 .0 .0 .0 .0 .0 .0 .0 .0 .1 in
-    let ne27 = c .before .match .rest .0 .0 .0 .0 .0 .0 .0 .0 .0 .0 .0 .1 in
-    let ne28 = c .before .match .rest .0 .0 .0 .0 .0 .0 .0 .0 .0 .0 .1 in
-    let ne29 = c .before .match .rest .0 .0 .0 .0 .0 .0 .0 .0 .0 .1 in
-    let ne30 = c .before .match .rest .0 .0 .0 .0 .0 .0 .0 .0 .1 in
-    let ne31 = c .before .match .rest .0 .0 .0 .0 .0 .0 .0 .1 in
-    let ne32 = c .before .match .rest .0 .0 .0 .0 .0 .0 .1 in
-    let ne33 = c .before .match .rest .0 .0 .0 .0 .0 .1 in
-    let ne34 = c .before .match .rest .0 .0 .0 .0 .1 in
-    let ne35 = c .before .match .rest .0 .0 .0 .1 in
-    let ne36 = c .before .match .rest .0 .0 .1 in
-    let ne37 = c .before .match .rest .0 .1 in
-    let ne38 = c .before .match .rest .1 in
-    c .goes-down7 .ensures ∙ each-found (λ f. downOnly (a .way) true 0 ≡ choiceOf f (a .way) (a .a) (a .b) (a .c)) (a .form) Form.goIntoBootMode refl (formsBy 0) 0 (a .form) (sym (zero-add (a .form)))
-    ((λ e. refl), ((λ e. absurd (ne1 e)), ((λ e. absurd (ne2 e)), ((λ e. absurd (ne3 e)), ((λ e. absurd (ne4 e)), ((λ e. absurd (ne5 e)), ((λ e. absurd (ne6 e)), ((λ e. absurd (ne7 e)), ((λ e. absurd (ne8 e)), ((λ e. absurd (ne9 e)), ((λ e. absurd (ne10 e)), ((λ e. absurd (ne11 e)), ((λ e. absurd (ne12 e)), ((λ e. absurd (ne13 e)), ((λ e. absurd (ne14 e)), ((λ e. refl), ((λ e. absurd (ne16 e)), ((λ e. absurd (ne17 e)), ((λ e. absurd (ne18 e)), ((λ e. refl), ((λ e. refl), ((λ e. refl), ((λ e. absurd (ne22 e)), ((λ e. absurd (ne23 e)), ((λ e. absurd (ne24 e)), ((λ e. absurd (ne25 e)), ((λ e. absurd (ne26 e)), ((λ e. absurd (ne27 e)), ((λ e. absurd (ne28 e)), ((λ e. absurd (ne29 e)), ((λ e. absurd (ne30 e)), ((λ e. absurd (ne31 e)), ((λ e. absurd (ne32 e)), ((λ e. absurd (ne33 e)), ((λ e. absurd (ne34 e)), ((λ e. absurd (ne35 e)), ((λ e. absurd (ne36 e)), ((λ e. absurd (ne37 e)), ((λ e. absurd (ne38 e)), tt)))))))))))))))))))))))))))))))))))))))
+    numbered (a .form) 40 (a .way) (a .a) (a .b) (a .c) _ (c .before .match .keys36) (c .goes-down8 .ensures)
+
+returns-37 : tie.Need-returns-37
+unfolding formAt
+returns-37 c =
+    let a = c .before .before .args in
+    numbered (a .form) 41 (a .way) (a .a) (a .b) (a .c) _ (c .before .match .keys37) (c .goes-up16 .ensures)
+
+returns-38 : tie.Need-returns-38
+unfolding formAt
+returns-38 c =
+    let a = c .before .before .args in
+    numbered (a .form) 42 (a .way) (a .a) (a .b) (a .c) _ (c .before .match .keys38) (c .goes-up17 .ensures)
+
+returns-39 : tie.Need-returns-39
+unfolding formAt
+returns-39 c =
+    let a = c .before .before .args in
+    let ne1 = c .before .match .rest .0 .0 .0 .0 .0 .0 .0 .0 .0 .0 .0 .0 .0 .0 .0 .0 .0 .0 .0 .0 .0 .0 .0 .0 .0 .0 .0 .0 .0 .0 .0 .0 .0 .0 .0 .0 .0 .1 in
+    let ne2 = c .before .match .rest .0 .0 .0 .0 .0 .0 .0 .0 .0 .0 .0 .0 .0 .0 .0 .0 .0 .0 .0 .0 .0 .0 .0 .0 .0 .0 .0 .0 .0 .0 .0 .0 .0 .0 .0 .0 .1 in
+    let ne3 = c .before .match .rest .0 .0 .0 .0 .0 .0 .0 .0 .0 .0 .0 .0 .0 .0 .0 .0 .0 .0 .0 .0 .0 .0 .0 .0 .0 .0 .0 .0 .0 .0 .0 .0 .0 .0 .0 .1 in
+    let ne4 = c .before .match .rest .0 .0 .0 .0 .0 .0 .0 .0 .0 .0 .0 .0 .0 .0 .0 .0 .0 .0 .0 .0 .0 .0 .0 .0 .0 .0 .0 .0 .0 .0 .0 .0 .0 .0 .1 in
+    let ne5 = c .before .match .rest .0 .0 .0 .0 .0 .0 .0 .0 .0 .0 .0 .0 .0 .0 .0 .0 .0 .0 .0 .0 .0 .0 .0 .0 .0 .0 .0 .0 .0 .0 .0 .0 .0 .1 in
+    let ne6 = c .before .match .rest .0 .0 .0 .0 .0 .0 .0 .0 .0 .0 .0 .0 .0 .0 .0 .0 .0 .0 .0 .0 .0 .0 .0 .0 .0 .0 .0 .0 .0 .0 .0 .0 .1 in
+    let ne7 = c .before .match .rest .0 .0 .0 .0 .0 .0 .0 .0 .0 .0 .0 .0 .0 .0 .0 .0 .0 .0 .0 .0 .0 .0 .0 .0 .0 .0 .0 .0 .0 .0 .0 .1 in
+    let ne8 = c .before .match .rest .0 .0 .0 .0 .0 .0 .0 .0 .0 .0 .0 .0 .0 .0 .0 .0 .0 .0 .0 .0 .0 .0 .0 .0 .0 .0 .0 .0 .0 .0 .1 in
+    let ne9 = c .before .match .rest .0 .0 .0 .0 .0 .0 .0 .0 .0 .0 .0 .0 .0 .0 .0 .0 .0 .0 .0 .0 .0 .0 .0 .0 .0 .0 .0 .0 .0 .1 in
+    let ne10 = c .before .match .rest .0 .0 .0 .0 .0 .0 .0 .0 .0 .0 .0 .0 .0 .0 .0 .0 .0 .0 .0 .0 .0 .0 .0 .0 .0 .0 .0 .0 .1 in
+    let ne11 = c .before .match .rest .0 .0 .0 .0 .0 .0 .0 .0 .0 .0 .0 .0 .0 .0 .0 .0 .0 .0 .0 .0 .0 .0 .0 .0 .0 .0 .0 .1 in
+    let ne12 = c .before .match .rest .0 .0 .0 .0 .0 .0 .0 .0 .0 .0 .0 .0 .0 .0 .0 .0 .0 .0 .0 .0 .0 .0 .0 .0 .0 .0 .1 in
+    let ne13 = c .before .match .rest .0 .0 .0 .0 .0 .0 .0 .0 .0 .0 .0 .0 .0 .0 .0 .0 .0 .0 .0 .0 .0 .0 .0 .0 .0 .1 in
+    let ne14 = c .before .match .rest .0 .0 .0 .0 .0 .0 .0 .0 .0 .0 .0 .0 .0 .0 .0 .0 .0 .0 .0 .0 .0 .0 .0 .0 .1 in
+    let ne16 = c .before .match .rest .0 .0 .0 .0 .0 .0 .0 .0 .0 .0 .0 .0 .0 .0 .0 .0 .0 .0 .0 .0 .0 .0 .0 .1 in
+    let ne17 = c .before .match .rest .0 .0 .0 .0 .0 .0 .0 .0 .0 .0 .0 .0 .0 .0 .0 .0 .0 .0 .0 .0 .0 .0 .1 in
+    let ne18 = c .before .match .rest .0 .0 .0 .0 .0 .0 .0 .0 .0 .0 .0 .0 .0 .0 .0 .0 .0 .0 .0 .0 .0 .1 in
+    let ne22 = c .before .match .rest .0 .0 .0 .0 .0 .0 .0 .0 .0 .0 .0 .0 .0 .0 .0 .0 .0 .0 .0 .0 .1 in
+    let ne23 = c .before .match .rest .0 .0 .0 .0 .0 .0 .0 .0 .0 .0 .0 .0 .0 .0 .0 .0 .0 .0 .0 .1 in
+    let ne24 = c .before .match .rest .0 .0 .0 .0 .0 .0 .0 .0 .0 .0 .0 .0 .0 .0 .0 .0 .0 .0 .1 in
+    let ne25 = c .before .match .rest .0 .0 .0 .0 .0 .0 .0 .0 .0 .0 .0 .0 .0 .0 .0 .0 .0 .1 in
+    let ne26 = c .before .match .rest .0 .0 .0 .0 .0 .0 .0 .0 .0 .0 .0 .0 .0 .0 .0 .0 .1 in
+    let ne27 = c .before .match .rest .0 .0 .0 .0 .0 .0 .0 .0 .0 .0 .0 .0 .0 .0 .0 .1 in
+    let ne28 = c .before .match .rest .0 .0 .0 .0 .0 .0 .0 .0 .0 .0 .0 .0 .0 .0 .1 in
+    let ne29 = c .before .match .rest .0 .0 .0 .0 .0 .0 .0 .0 .0 .0 .0 .0 .0 .1 in
+    let ne30 = c .before .match .rest .0 .0 .0 .0 .0 .0 .0 .0 .0 .0 .0 .0 .1 in
+    let ne31 = c .before .match .rest .0 .0 .0 .0 .0 .0 .0 .0 .0 .0 .0 .1 in
+    let ne32 = c .before .match .rest .0 .0 .0 .0 .0 .0 .0 .0 .0 .0 .1 in
+    let ne33 = c .before .match .rest .0 .0 .0 .0 .0 .0 .0 .0 .0 .1 in
+    let ne34 = c .before .match .rest .0 .0 .0 .0 .0 .0 .0 .0 .1 in
+    let ne35 = c .before .match .rest .0 .0 .0 .0 .0 .0 .0 .1 in
+    let ne36 = c .before .match .rest .0 .0 .0 .0 .0 .0 .1 in
+    let ne37 = c .before .match .rest .0 .0 .0 .0 .0 .1 in
+    let ne38 = c .before .match .rest .0 .0 .0 .0 .1 in
+    let ne39 = c .before .match .rest .0 .0 .0 .1 in
+    let ne40 = c .before .match .rest .0 .0 .1 in
+    let ne41 = c .before .match .rest .0 .1 in
+    let ne42 = c .before .match .rest .1 in
+    c .goes-down9 .ensures ∙ each-found (λ f. downOnly (a .way) true 0 ≡ choiceOf f (a .way) (a .a) (a .b) (a .c)) (a .form) Form.goIntoBootMode refl (formsBy 0) 0 (a .form) (sym (zero-add (a .form)))
+    ((λ e. refl), ((λ e. absurd (ne1 e)), ((λ e. absurd (ne2 e)), ((λ e. absurd (ne3 e)), ((λ e. absurd (ne4 e)), ((λ e. absurd (ne5 e)), ((λ e. absurd (ne6 e)), ((λ e. absurd (ne7 e)), ((λ e. absurd (ne8 e)), ((λ e. absurd (ne9 e)), ((λ e. absurd (ne10 e)), ((λ e. absurd (ne11 e)), ((λ e. absurd (ne12 e)), ((λ e. absurd (ne13 e)), ((λ e. absurd (ne14 e)), ((λ e. refl), ((λ e. absurd (ne16 e)), ((λ e. absurd (ne17 e)), ((λ e. absurd (ne18 e)), ((λ e. refl), ((λ e. refl), ((λ e. refl), ((λ e. absurd (ne22 e)), ((λ e. absurd (ne23 e)), ((λ e. absurd (ne24 e)), ((λ e. absurd (ne25 e)), ((λ e. absurd (ne26 e)), ((λ e. absurd (ne27 e)), ((λ e. absurd (ne28 e)), ((λ e. absurd (ne29 e)), ((λ e. absurd (ne30 e)), ((λ e. absurd (ne31 e)), ((λ e. absurd (ne32 e)), ((λ e. absurd (ne33 e)), ((λ e. absurd (ne34 e)), ((λ e. absurd (ne35 e)), ((λ e. absurd (ne36 e)), ((λ e. absurd (ne37 e)), ((λ e. absurd (ne38 e)), ((λ e. absurd (ne39 e)), ((λ e. absurd (ne40 e)), ((λ e. absurd (ne41 e)), ((λ e. absurd (ne42 e)), tt)))))))))))))))))))))))))))))))))))))))))))
 
 pub choose-spec : {M : Type 1} → statement M
 choose-spec =
@@ -413,7 +456,12 @@ choose-spec =
     goes-down-requires-5
     goes-down-requires-6
     goes-up-requires-15
+    is-setup-requires
     goes-down-requires-7
+    goes-down-requires-8
+    goes-up-requires-16
+    goes-up-requires-17
+    goes-down-requires-9
     returns
     returns-2
     returns-3
@@ -448,4 +496,8 @@ choose-spec =
     returns-32
     returns-33
     returns-34
-    returns-35)
+    returns-35
+    returns-36
+    returns-37
+    returns-38
+    returns-39)

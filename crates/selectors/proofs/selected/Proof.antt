@@ -232,6 +232,30 @@ enum-told-26 c = search needs
 choose-requires-38 : tie.Need-choose-requires-38
 choose-requires-38 c κs = search needs
 
+enum-known-m-13 : tie.Need-enum-known-m-13
+enum-known-m-13 c = search needs
+
+choose-requires-39 : tie.Need-choose-requires-39
+choose-requires-39 c κs = search needs
+
+enum-told-27 : tie.Need-enum-told-27
+enum-told-27 c = search needs
+
+choose-requires-40 : tie.Need-choose-requires-40
+choose-requires-40 c κs = search needs
+
+enum-told-28 : tie.Need-enum-told-28
+enum-told-28 c = search needs
+
+choose-requires-41 : tie.Need-choose-requires-41
+choose-requires-41 c κs = search needs
+
+enum-told-29 : tie.Need-enum-told-29
+enum-told-29 c = search needs
+
+choose-requires-42 : tie.Need-choose-requires-42
+choose-requires-42 c κs = search needs
+
 returns : tie.Need-returns
 unfolding formAt
 returns c =
@@ -422,6 +446,26 @@ unfolding formAt
 returns-38 c =
     right-by (c .before .before .before .args .way) _ _ _ _ (c .before .enum-told26 .given .1) (c .choose38 .ensures) (message-right _ (c .before .before .before .args .way))
 
+returns-39 : tie.Need-returns-39
+unfolding formAt
+returns-39 c =
+    right-by (c .before .before .before .before .args .way) _ _ _ _ (c .before .before .m13 .given .1) (c .choose39 .ensures) (message-right _ (c .before .before .before .before .args .way))
+
+returns-40 : tie.Need-returns-40
+unfolding formAt
+returns-40 c =
+    right-by (c .before .before .before .args .way) _ _ _ _ (c .before .enum-told27 .given .1) (c .choose40 .ensures) (message-right _ (c .before .before .before .args .way))
+
+returns-41 : tie.Need-returns-41
+unfolding formAt
+returns-41 c =
+    right-by (c .before .before .before .args .way) _ _ _ _ (c .before .enum-told28 .given .1) (c .choose41 .ensures) (message-right _ (c .before .before .before .args .way))
+
+returns-42 : tie.Need-returns-42
+unfolding formAt
+returns-42 c =
+    right-by (c .before .before .before .args .way) _ _ _ _ (c .before .enum-told29 .given .1) (c .choose42 .ensures) (message-right _ (c .before .before .before .args .way))
+
 pub selected-spec : {M : Type 1} → statement M
 selected-spec =
     tie.close
@@ -502,6 +546,14 @@ selected-spec =
     choose-requires-37
     enum-told-26
     choose-requires-38
+    enum-known-m-13
+    choose-requires-39
+    enum-told-27
+    choose-requires-40
+    enum-told-28
+    choose-requires-41
+    enum-told-29
+    choose-requires-42
     returns
     returns-2
     returns-3
@@ -539,4 +591,8 @@ selected-spec =
     returns-35
     returns-36
     returns-37
-    returns-38)
+    returns-38
+    returns-39
+    returns-40
+    returns-41
+    returns-42)

@@ -7,7 +7,7 @@ use Rattle.protocol.specs.Decode.{smallestSize}
 use Rattle.protocol.specs.declared.Message.{Message}
 use Rattle.writer.specs.Slots.{typePlace}
 use Rattle.writer.proofs.Rests.{nothing-follows}
-use Rattle.writer.proofs.Sizes.{smallest-is}
+use Rattle.writer.proofs.Sizes.{smallest-is, smallest-of}
 use borrow.Author.Needs.{needs}
 use Rattle.writer.proofs.smallest_size.Statement.{statement}
 use Rattle.writer.proofs.smallest_size.Tie as tie
@@ -48,29 +48,29 @@ enum-told-5 c = search needs
 add-result-4 : tie.Need-add-result-4
 add-result-4 c = search needs
 
+enum-told-6 : tie.Need-enum-told-6
+enum-told-6 c = search needs
+
+add-result-5 : tie.Need-add-result-5
+add-result-5 c = search needs
+
+enum-told-7 : tie.Need-enum-told-7
+enum-told-7 c = search needs
+
+add-result-6 : tie.Need-add-result-6
+add-result-6 c = search needs
+
 returns : tie.Need-returns
 unfolding layout
-returns c =
-    let start = c .before .before .before in
-    let widths = c .before .before .widths in
-    smallest-is (start .args .m) (start .args .slots) (start .pre) (widths .result) (widths .ensures .0) _
-    (ap (λ (m : Message). layout (formOf m) .rest) (c .enum-told .given .1)) (λ vs. refl)
+returns c = smallest-of (c .enum-told .given .1) (c .before .before .before .pre) (c .before .before .widths .ensures .0) (λ vs. refl)
 
 returns-2 : tie.Need-returns-2
 unfolding layout
-returns-2 c =
-    let start = c .before .before .before in
-    let widths = c .before .before .widths in
-    smallest-is (start .args .m) (start .args .slots) (start .pre) (widths .result) (widths .ensures .0) _
-    (ap (λ (m : Message). layout (formOf m) .rest) (c .enum-told2 .given .1)) (λ vs. refl)
+returns-2 c = smallest-of (c .enum-told2 .given .1) (c .before .before .before .pre) (c .before .before .widths .ensures .0) (λ vs. refl)
 
 returns-3 : tie.Need-returns-3
 unfolding layout
-returns-3 c =
-    let start = c .before .before .before in
-    let widths = c .before .before .widths in
-    smallest-is (start .args .m) (start .args .slots) (start .pre) (widths .result) (widths .ensures .0) _
-    (ap (λ (m : Message). layout (formOf m) .rest) (c .enum-told3 .given .1)) (λ vs. refl)
+returns-3 c = smallest-of (c .enum-told3 .given .1) (c .before .before .before .pre) (c .before .before .widths .ensures .0) (λ vs. refl)
 
 returns-4 : tie.Need-returns-4
 unfolding layout
@@ -78,19 +78,23 @@ returns-4 c = sym (ap (λ (m : Message). smallestSize (formOf m)) (c .enum-told4
 
 returns-5 : tie.Need-returns-5
 unfolding layout
-returns-5 c =
-    let start = c .before .before .before in
-    let widths = c .before .before .widths in
-    smallest-is (start .args .m) (start .args .slots) (start .pre) (widths .result) (widths .ensures .0) _
-    (ap (λ (m : Message). layout (formOf m) .rest) (c .enum-told5 .given .1)) (λ vs. refl)
+returns-5 c = smallest-of (c .enum-told5 .given .1) (c .before .before .before .pre) (c .before .before .widths .ensures .0) (λ vs. refl)
 
 returns-6 : tie.Need-returns-6
-returns-6 c =
+unfolding layout
+returns-6 c = smallest-of (c .enum-told6 .given .1) (c .before .before .before .pre) (c .before .before .widths .ensures .0) (λ vs. refl)
+
+returns-7 : tie.Need-returns-7
+unfolding layout
+returns-7 c = smallest-of (c .enum-told7 .given .1) (c .before .before .before .pre) (c .before .before .widths .ensures .0) (λ vs. refl)
+
+returns-8 : tie.Need-returns-8
+returns-8 c =
     let start = c .before .before in
     let widths = c .before .widths in
     sym (add-zero (typePlace + widths .result))
     ∙ smallest-is (start .args .m) (start .args .slots) (start .pre) (widths .result) (widths .ensures .0) nothing
-    (nothing-follows (start .args .m) (c .match .keys6)) (λ vs. refl)
+    (nothing-follows (start .args .m) (c .match .keys8)) (λ vs. refl)
 
 pub smallest-size-spec : {M : Type 1} → statement M
 smallest-size-spec =
@@ -108,9 +112,15 @@ smallest-size-spec =
     enum-told-4
     enum-told-5
     add-result-4
+    enum-told-6
+    add-result-5
+    enum-told-7
+    add-result-6
     returns
     returns-2
     returns-3
     returns-4
     returns-5
-    returns-6)
+    returns-6
+    returns-7
+    returns-8)

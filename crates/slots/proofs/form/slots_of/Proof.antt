@@ -238,6 +238,30 @@ enum-told-4 c = search needs
 row0-requires-2 : tie.Need-row0-requires-2
 row0-requires-2 c κs = search needs
 
+enum-known-m-35 : tie.Need-enum-known-m-35
+enum-known-m-35 c = search needs
+
+row2-requires-8 : tie.Need-row2-requires-8
+row2-requires-8 c κs = search needs
+
+enum-known-m-36 : tie.Need-enum-known-m-36
+enum-known-m-36 c = search needs
+
+row3-requires-10 : tie.Need-row3-requires-10
+row3-requires-10 c κs = search needs
+
+enum-known-m-37 : tie.Need-enum-known-m-37
+enum-known-m-37 c = search needs
+
+row2-requires-9 : tie.Need-row2-requires-9
+row2-requires-9 c κs = search needs
+
+enum-known-m-38 : tie.Need-enum-known-m-38
+enum-known-m-38 c = search needs
+
+row3-requires-11 : tie.Need-row3-requires-11
+row3-requires-11 c κs = search needs
+
 returns : tie.Need-returns
 unfolding layout
 returns c = slotted (c .before .before .m .given .1) (c .row2 .ensures) (record { eleven = refl; fields = refl; values = refl })
@@ -401,6 +425,22 @@ returns-38 : tie.Need-returns-38
 unfolding layout
 returns-38 c = slotted (c .before .enum-told4 .given .1) (c .row02 .ensures) (record { eleven = refl; fields = refl; values = refl })
 
+returns-39 : tie.Need-returns-39
+unfolding layout
+returns-39 c = slotted (c .before .before .m35 .given .1) (c .row28 .ensures) (record { eleven = refl; fields = refl; values = refl })
+
+returns-40 : tie.Need-returns-40
+unfolding layout
+returns-40 c = slotted (c .before .before .m36 .given .1) (c .row310 .ensures) (record { eleven = refl; fields = refl; values = refl })
+
+returns-41 : tie.Need-returns-41
+unfolding layout
+returns-41 c = slotted (c .before .before .m37 .given .1) (c .row29 .ensures) (record { eleven = refl; fields = refl; values = refl })
+
+returns-42 : tie.Need-returns-42
+unfolding layout
+returns-42 c = slotted (c .before .before .m38 .given .1) (c .row311 .ensures) (record { eleven = refl; fields = refl; values = refl })
+
 pub slots-of-spec : {M : Type 1} → statement M
 slots-of-spec =
     tie.close
@@ -482,6 +522,14 @@ slots-of-spec =
     row5-requires-4
     enum-told-4
     row0-requires-2
+    enum-known-m-35
+    row2-requires-8
+    enum-known-m-36
+    row3-requires-10
+    enum-known-m-37
+    row2-requires-9
+    enum-known-m-38
+    row3-requires-11
     returns
     returns-2
     returns-3
@@ -519,4 +567,8 @@ slots-of-spec =
     returns-35
     returns-36
     returns-37
-    returns-38)
+    returns-38
+    returns-39
+    returns-40
+    returns-41
+    returns-42)

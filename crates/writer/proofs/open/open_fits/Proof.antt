@@ -1,4 +1,5 @@
 use borrow.Author.Tests.{eq-eqb, ne-eqb}
+use native.Mathlib.Nat.{mod-one}
 use mathlib.Core.Path.{sym, _∙_, ap}
 use Rattle.protocol.specs.Form.{Rest, layout}
 use Rattle.protocol.specs.Answer.{formOf, valuesOf}
@@ -45,6 +46,18 @@ enum-told-2 c = search needs
 within-requires-4 : tie.Need-within-requires-4
 within-requires-4 c κs = search needs
 
+enum-told-3 : tie.Need-enum-told-3
+enum-told-3 c = search needs
+
+within-requires-5 : tie.Need-within-requires-5
+within-requires-5 c κs = search needs
+
+enum-told-4 : tie.Need-enum-told-4
+enum-told-4 c = search needs
+
+within-requires-6 : tie.Need-within-requires-6
+within-requires-6 c κs = search needs
+
 returns : tie.Need-returns
 unfolding openFits layout
 returns c = c .within .ensures ∙ rw (c .before .longest .ensures, c .before .before .before .m .given .1)
@@ -74,8 +87,16 @@ unfolding openFits layout
 returns-7 c = rw (c .before .enum-told2 .given .1, ne-eqb _ _ (c .if2 .left))
 
 returns-8 : tie.Need-returns-8
+unfolding openFits layout
+returns-8 c = c .within5 .ensures ∙ rw (c .before .enum-told3 .given .1, mod-one (c .before .before .before .args .count))
+
+returns-9 : tie.Need-returns-9
+unfolding openFits layout
+returns-9 c = c .within6 .ensures ∙ rw (c .before .enum-told4 .given .1)
+
+returns-10 : tie.Need-returns-10
 unfolding openFits
-returns-8 c = let m = c .before .args .m in let count = c .before .args .count in sym (ap (λ (r : Rest). restFits r (afterFields (layout (formOf m) .fields) (valuesOf m)) count) (nothing-follows m (c .match .keys6)))
+returns-10 c = let m = c .before .args .m in let count = c .before .args .count in sym (ap (λ (r : Rest). restFits r (afterFields (layout (formOf m) .fields) (valuesOf m)) count) (nothing-follows m (c .match .keys8)))
 
 pub open-fits-spec : {M : Type 1} → statement M
 open-fits-spec =
@@ -93,6 +114,10 @@ open-fits-spec =
     between-requires
     enum-told-2
     within-requires-4
+    enum-told-3
+    within-requires-5
+    enum-told-4
+    within-requires-6
     returns
     returns-2
     returns-3
@@ -100,4 +125,6 @@ open-fits-spec =
     returns-5
     returns-6
     returns-7
-    returns-8)
+    returns-8
+    returns-9
+    returns-10)
