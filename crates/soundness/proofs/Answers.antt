@@ -3,16 +3,16 @@ use Prim.Native.Nat.{ℕ, zero, suc, _+_, _-_, _^_, _≤_, _<_}
 use native.Mathlib.Nat.{lt-of-lt-of-le}
 use native.Mathlib.Omega.{arith}
 use mathlib.Core.Path.{_≡_, refl, sym, _∙_, ap}
-use mathlib.Core.Bool.{Bool, true, false, cond, not, _&&_, _||_, and-true, and-false, and-assoc, and-comm, or-true}
+use mathlib.Core.Bool.{Bool, true, false, cond, not, _&&_, _||_, and-true, and-false, and-assoc, and-comm, true≢false}
 use mathlib.Core.List.{List, [], _∷_}
 use mathlib.Core.Option.{Option, none, some}
 use mathlib.Core.Logic.{⊎-elim}
-use borrow.Author.Tests.{eqb-true, eqb-false, eq-eqb, ne-eqb, lt-ltb, ltb-true, not-true}
+use borrow.Author.Tests.{eqb-true, eq-eqb, ne-eqb, lt-ltb, ltb-true, not-true}
 use lib.Dec.{eqb, leb, ltb, leb·suc-suc, eqb·suc-zero, eqb·suc-suc}
 use lib.ListN.{length, take, drop, replicate}
 use lib.Pow.{pow-mono}
 use Rattle.protocol.specs.Form.{lastMode, lastNotify, mostEntries}
-use Rattle.protocol.proofs.Tests.{which, and-left, and-right}
+use Rattle.protocol.proofs.Tests.{which, and-right}
 use Rattle.rules.specs.Layout.{modeCount, stride, askedIndex, answeredIndex, listIndex, takenIndex}
 use Rattle.rules.specs.Facts.{askedCombined, askedSingle, answeredCombined, answeredSingle, sameList}
 use Rattle.rules.specs.Pointers.{pointersFit}
@@ -20,7 +20,7 @@ use Rattle.rules.specs.WellFormed.{setupFits, isNone, listFits, keptFits, asked
 use Rattle.rules.specs.Cells.{combinedCell, askedCells, answeredCells, takenBy, listCells, cellAt, setupAt, askedAt, answeredAt, entriesFrom, listFrom}
 use Rattle.rules.proofs.CellsSound.{same-refl}
 use Rattle.rules.proofs.SettingsFit.{five-passed}
-use Rattle.soundness.specs.Soundness.{listIn, allZeros, cellsOfList, exactAsked, exactAnswered, exactList, exactTaken, soundSetup, soundList, soundAsked, soundAnswered, soundCombined}
+use Rattle.soundness.specs.Soundness.{listIn, allZeros, cellsOfList, exactAsked, exactAnswered, exactList, exactTaken, soundSetup, soundList, soundAsked, soundAnswered, pointersOf, soundCombined}
 use Rattle.soundness.proofs.Lists.{list-cells, list-few, entries-count}
 use Rattle.soundness.proofs.Loops.{and-when}
 
@@ -106,16 +106,23 @@ answered-single place size other =
 -- ---- what was answered by a 48
 
 -- pointers within a list of at most sixteen are a u16's
-pub pointers-small : (p count : ℕ) → count ≤ mostEntries → pointersFit p count ≡ true → p < 65536
+pointers-small : (p count : ℕ) → count ≤ mostEntries → pointersFit p count ≡ true → p < 65536
 unfolding pointersFit
 pointers-small p count few e = lt-of-lt-of-le (ltb-true p (2 ^ count) (and-right (not (eqb p 0)) (ltb p (2 ^ count)) e)) (pow-mono few)
 
-fit-small : (p count : ℕ) → count ≤ mostEntries → (ltb p 65536 && pointersFit p count) ≡ pointersFit p count
+pub as-they-are : (n : ℕ) → n < 65536 → pointersOf n ≡ n
+unfolding pointersOf
+as-they-are n h = ap (λ (b : Bool). cond b n 0) (lt-ltb n 65536 h)
+
+fit-small : (p count : ℕ) → count ≤ mostEntries → pointersFit (pointersOf p) count ≡ pointersFit p count
+unfolding pointersOf pointersFit
 fit-small p count few =
     ⊎-elim
-    (λ (k : pointersFit p count ≡ true). ap (λ (b : Bool). b && pointersFit p count) (lt-ltb p 65536 (pointers-small p count few k)))
-    (λ (k : pointersFit p count ≡ false). ap (λ (b : Bool). ltb p 65536 && b) k ∙ and-false (ltb p 65536) ∙ sym k)
-    (which (pointersFit p count))
+    (λ (k : ltb p 65536 ≡ true). ap (λ (n : ℕ). pointersFit n count) (as-they-are p (ltb-true p 65536 k)))
+    (λ (k : ltb p 65536 ≡ false).
+    ap (λ (b : Bool). pointersFit (cond b p 0) count) k
+    ∙ ⊎-elim (λ (j : pointersFit p count ≡ true). absurd (true≢false (sym (lt-ltb p 65536 (pointers-small p count few j)) ∙ k))) (λ (j : pointersFit p count ≡ false). sym j) (which (pointersFit p count)))
+    (which (ltb p 65536))
 
 module _ (place : List ℕ) (size : length place ≡ stride) where
   abbrev pointers : ℕ
@@ -147,8 +154,8 @@ module _ (place : List ℕ) (size : length place ≡ stride) where
   with-none : eqb count 0 ≡ true → soundCombined place ≡ by-rules
   unfolding soundCombined
   with-none e =
-      ap (λ (b : Bool). notify && kept && not b && soundList place takenIndex && (ltb pointers 65536 && pointersFit pointers count)) e
-      ∙ ap (λ (b : Bool). b && soundList place takenIndex && (ltb pointers 65536 && pointersFit pointers count)) (and-false (notify && kept))
+      ap (λ (b : Bool). notify && kept && not b && soundList place takenIndex && pointersFit (pointersOf pointers) count) e
+      ∙ ap (λ (b : Bool). b && soundList place takenIndex && pointersFit (pointersOf pointers) count) (and-false (notify && kept))
       ∙ sym (ap (λ (b : Bool). notify && exact && (kept && b && pointersFit pointers (length taken))) (no-list (eqb-true count 0 e))
       ∙ ap (λ (b : Bool). notify && exact && (b && pointersFit pointers (length taken))) (and-false kept)
       ∙ and-false (notify && exact))
@@ -159,7 +166,7 @@ module _ (place : List ℕ) (size : length place ≡ stride) where
       let fits : Bool = listFits taken in
       let is : soundList place takenIndex ≡ (exact && fits) = ap (λ (b : Bool). sameList (cellsOfList place takenIndex) (listCells (cond b none (some taken))) && keptFits (cond b none (some taken))) e in
       let front : Bool = notify && kept && true && (exact && fits) in
-      (λ i. notify && kept && not (e i) && is i && (ltb pointers 65536 && pointersFit pointers count))
+      (λ i. notify && kept && not (e i) && is i && pointersFit (pointersOf pointers) count)
       ∙ and-when front (λ k.
       let few : count ≤ mostEntries = list-few place takenIndex size (omega arith) (is ∙ and-right (notify && kept && true) (exact && fits) k) in
       fit-small pointers count few ∙ ap (pointersFit pointers) (sym (entries-count place takenIndex size (omega arith) few)))
@@ -190,13 +197,14 @@ module _ (place : List ℕ) (size : length place ≡ stride) where
   pub combined-parts : cellAt place answeredIndex ≡ combinedCell → soundAnswered place ≡ true → Combined
   unfolding soundCombined
   combined-parts e s =
-      let fit : Bool = ltb pointers 65536 && pointersFit pointers count in
-      let k = five-passed notify kept (not (eqb count 0)) (soundList place takenIndex) fit (answered-combined e ∙ s) in
+      let k = five-passed notify kept (not (eqb count 0)) (soundList place takenIndex) (pointersFit (pointersOf pointers) count) (answered-combined e ∙ s) in
+      let few : count ≤ mostEntries = list-few place takenIndex size (omega arith) (k .3) in
+      let fits : pointersFit pointers count ≡ true = sym (fit-small pointers count few) ∙ k .4 in
       record {
         notified = eqb-true (cellAt place (answeredIndex + 2)) 0 (k .0);
         listed = not-true (eqb (cellAt place listIndex) 0) (k .1);
         took = not-true (eqb count 0) (k .2);
         list = k .3;
-        small = ltb-true pointers 65536 (and-left (ltb pointers 65536) (pointersFit pointers count) (k .4));
-        within = and-right (ltb pointers 65536) (pointersFit pointers count) (k .4);
+        small = pointers-small pointers count few fits;
+        within = fits;
       }

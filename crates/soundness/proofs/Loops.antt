@@ -64,8 +64,8 @@ and-when false f = refl
 
 -- ---- a choice whose test is known
 
-pub first-of : (x y : Bool) {b : Bool} → b ≡ true → x ≡ cond b x y
+pub first-of : {A : Type 0} (x y : A) {b : Bool} → b ≡ true → x ≡ cond b x y
 first-of x y e = sym (ap (λ (b : Bool). cond b x y) e)
 
-pub second-of : (x y : Bool) {b : Bool} → b ≡ false → y ≡ cond b x y
+pub second-of : {A : Type 0} (x y : A) {b : Bool} → b ≡ false → y ≡ cond b x y
 second-of x y e = sym (ap (λ (b : Bool). cond b x y) e)

@@ -2,14 +2,13 @@
 use Prim.Native.Nat.{ℕ, zero, suc, _+_, _^_, _≤_}
 use native.Mathlib.Omega.{arith}
 use mathlib.Core.Path.{_≡_, refl, sym, _∙_, ap}
-use mathlib.Core.Bool.{Bool, true, false, cond, not, _&&_, _||_, and-true, or-false, true≢false}
+use mathlib.Core.Bool.{Bool, true, false, cond, not, _&&_, _||_, or-false, true≢false}
 use mathlib.Core.List.{List}
 use mathlib.Core.Option.{Option, none, some}
 use mathlib.Core.Logic.{⊎-elim}
-use borrow.Author.Tests.{eqb-true, eqb-false, eq-eqb, ne-eqb, lt-ltb, not-false}
-use lib.Dec.{eqb, ltb, eqb·suc-zero, eqb·suc-suc}
-use lib.ListN.{length, drop, take}
-use lib.Seq.{drop-cons}
+use borrow.Author.Tests.{eqb-true, eqb-false, ne-eqb}
+use lib.Dec.{eqb, eqb·suc-zero, eqb·suc-suc}
+use lib.ListN.{length}
 use Rattle.protocol.specs.Form.{mostEntries}
 use Rattle.protocol.proofs.Tests.{which, and-left}
 use Rattle.rules.specs.Layout.{modeCount, stride, stateIndex, askedIndex, answeredIndex, listIndex, takenIndex}
@@ -18,8 +17,8 @@ use Rattle.rules.specs.Learn.{wholeList}
 use Rattle.rules.specs.WellFormed.{keptFits, stateFits}
 use Rattle.rules.specs.Cells.{combinedCell, listCells, cellAt, setupAt, askedAt, answeredAt, entriesFrom, listFrom}
 use Rattle.rules.proofs.CellsSound.{same-refl, same-equal}
-use Rattle.soundness.specs.Soundness.{askedIn, answeredIn, listIn, cellsOfList, exactList, sameSetups, soundList, soundAnswered, asAsked, tookKept, stateByCells}
-use Rattle.soundness.proofs.Answers.{Combined, combined-parts}
+use Rattle.soundness.specs.Soundness.{askedIn, answeredIn, listIn, cellsOfList, exactList, sameSetups, soundList, soundAnswered, pointersOf, asAsked, tookKept, stateByCells}
+use Rattle.soundness.proofs.Answers.{as-they-are, Combined, combined-parts}
 use Rattle.soundness.proofs.Lists.{list-few, list-entries, entries-count}
 
 -- ---- by the tests of the cells
@@ -100,7 +99,7 @@ module _ (place : List ℕ) (size : length place ≡ stride) where
       let m' : ℕ = cellAt place answeredIndex in
       let state : ℕ = cellAt place stateIndex in
       let p : ℕ = cellAt place (answeredIndex + 1) in
-      let all : Bool = eqb m combinedCell && (ltb p 65536 && eqb (suc p) (2 ^ cellAt place takenIndex)) in
+      let all : Bool = eqb m combinedCell && eqb (suc (pointersOf p)) (2 ^ cellAt place takenIndex) in
       (λ i. after-asking m m' state (cond (e i) all (sameSetups place)) (cond (e i) (sameList (cellsOfList place takenIndex) (cellsOfList place listIndex)) true))
       ∙ single-rule m (cellAt place (askedIndex + 1)) (cellAt place (askedIndex + 2)) m' p (cellAt place (answeredIndex + 2)) state (listIn place) (entriesFrom place takenIndex) e
 
@@ -111,10 +110,10 @@ module _ (place : List ℕ) (size : length place ≡ stride) where
       let state : ℕ = cellAt place stateIndex in
       let p : ℕ = cellAt place (answeredIndex + 1) in
       let taken : List ℕ = entriesFrom place takenIndex in
-      let all : Bool = ltb p 65536 && eqb (suc p) (2 ^ cellAt place takenIndex) in
+      let all : Bool = eqb (suc (pointersOf p)) (2 ^ cellAt place takenIndex) in
       let took : Bool = sameList (cellsOfList place takenIndex) (cellsOfList place listIndex) in
       let few : cellAt place takenIndex ≤ mostEntries = list-few place takenIndex size (omega arith) (c .list) in
-      let whole : all ≡ wholeList p taken = λ i. lt-ltb p 65536 (c .small) i && eqb (suc p) (2 ^ sym (entries-count place takenIndex size (omega arith) few) i) in
+      let whole : all ≡ wholeList p taken = λ i. eqb (suc (as-they-are p (c .small) i)) (2 ^ sym (entries-count place takenIndex size (omega arith) few) i) in
       ap (λ (m' : ℕ). after-asking m m' state (cond (eqb m' combinedCell) (eqb m combinedCell && all) (sameSetups place)) (cond (eqb m' combinedCell) took true)) e
       ∙ combined-rule m (cellAt place (askedIndex + 1)) (cellAt place (askedIndex + 2)) p state (entriesFrom place listIndex) taken all took whole (same-lists (c .took) (c .list) (c .listed) s)
       ∙ sym (λ i. stateFits (askedIn place) (answeredAt (e i) p (cellAt place (answeredIndex + 2)) taken) (cond (c .listed i) none (some (entriesFrom place listIndex))) state)

@@ -100,14 +100,17 @@ soundAsked place = exactAsked place && askedFits (askedIn place) (listIn place)
 unfoldable pub soundAnswered : List ℕ → Bool
 soundAnswered place = exactAnswered place && exactTaken place && answeredFits (answeredIn place) (listIn place)
 
--- the same of a 48, by its cells: pointers that are a u16's, and the list that it took over
+-- the pointers of a cell, a u16; none where it is larger
+unfoldable pub pointersOf : ℕ → ℕ
+pointersOf n = cond (ltb n 65536) n 0
+
+-- the same of a 48, by its cells
 unfoldable pub soundCombined : List ℕ → Bool
 soundCombined place =
-    let pointers = cellAt place (answeredIndex + 1) in
     let count = cellAt place takenIndex in
     eqb (cellAt place (answeredIndex + 2)) 0 && not (eqb (cellAt place listIndex) 0) && not (eqb count 0)
     && soundList place takenIndex
-    && (ltb pointers 65536 && pointersFit pointers count)
+    && pointersFit (pointersOf (cellAt place (answeredIndex + 1))) count
 
 -- ---- the state by the cells, where the other settings are exact and within their lists
 
@@ -121,9 +124,8 @@ sameSetups place =
 -- what was answered is what was asked: the same setup, or all of the list
 unfoldable pub asAsked : List ℕ → Bool
 asAsked place =
-    let pointers = cellAt place (answeredIndex + 1) in
     cond (eqb (cellAt place answeredIndex) combinedCell)
-    (eqb (cellAt place askedIndex) combinedCell && (ltb pointers 65536 && eqb (suc pointers) (2 ^ cellAt place takenIndex)))
+    (eqb (cellAt place askedIndex) combinedCell && eqb (suc (pointersOf (cellAt place (answeredIndex + 1)))) (2 ^ cellAt place takenIndex))
     (sameSetups place)
 
 -- a 48 took over the list that is kept

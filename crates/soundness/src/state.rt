@@ -1,11 +1,10 @@
 // Whether the state goes by its rule, by what was asked, what was answered and the lists.
 ghost use mathlib.Core.Path.{_≡_};
-ghost use mathlib.Core.Bool.{cond, _&&_};
-ghost use Prim.Native.Nat.{suc, _^_};
-ghost use lib.Dec.{eqb, ltb};
+ghost use mathlib.Core.Bool.{cond};
 ghost use lib.ListN.{length};
 ghost use Rattle.rules.specs.Layout.{stride};
 ghost use Rattle.soundness.specs.Soundness.{asAsked, tookKept, stateByCells};
+use crate::answer::pointers_of;
 use crate::list::same_cells;
 use pointers::name_all;
 use rules::layout::ANSWERED;
@@ -16,23 +15,14 @@ use rules::layout::STATE;
 use rules::layout::STRIDE;
 use rules::layout::TAKEN;
 
-// Whether pointers are a u16's, and name all entries of a list of so many and no more.
-fn are_all(pointers: u32, count: u32) -> bool
-    ensures { λ r. ⌜ r ≡ (ltb pointers 65536 && eqb (suc pointers) (2 ^ count)) ⌝ }
-{
-    if 65536 <= pointers {
-        return false;
-    }
-    name_all(pointers as u16, count)
-}
-
 // Whether what was answered is what was asked: the same setup, or all of the list.
 fn is_as_asked(place: &[u32]) -> bool
     requires { ⌜ length (now place) ≡ stride ⌝ }
     ensures { λ r. ⌜ r ≡ asAsked (now (place .entry)) ⌝ }
 {
     if place[ANSWERED] == COMBINED {
-        return (place[ASKED] == COMBINED) & are_all(place[ANSWERED + 1], place[TAKEN]);
+        return (place[ASKED] == COMBINED)
+            & name_all(pointers_of(place[ANSWERED + 1]), place[TAKEN]);
     }
     (place[ASKED] == place[ANSWERED])
         & (place[ASKED + 1] == place[ANSWERED + 1])

@@ -1,7 +1,6 @@
 use borrow.Author.Needs.{needs}
-use Prim.Native.Nat.{ℕ}
-use mathlib.Core.Path.{_≡_, sym, _∙_, ap}
-use mathlib.Core.Bool.{Bool, cond}
+use mathlib.Core.Path.{sym, _∙_}
+use Rattle.soundness.proofs.Loops.{first-of, second-of}
 use Rattle.soundness.proofs.state.answer_state.Statement.{statement}
 use Rattle.soundness.proofs.state.answer_state.Tie as tie
 
@@ -9,10 +8,10 @@ is-as-asked-requires : tie.Need-is-as-asked-requires
 is-as-asked-requires c κs = search needs
 
 returns : tie.Need-returns
-returns c = sym (ap (λ (b : Bool). cond {A = ℕ} b 2 3) (sym (c .before .is-as-asked .ensures) ∙ c .if1 .taken))
+returns c = first-of 2 3 (sym (c .before .is-as-asked .ensures) ∙ c .if1 .taken)
 
 returns-2 : tie.Need-returns-2
-returns-2 c = sym (ap (λ (b : Bool). cond {A = ℕ} b 2 3) (sym (c .before .is-as-asked .ensures) ∙ c .if1 .left))
+returns-2 c = second-of 2 3 (sym (c .before .is-as-asked .ensures) ∙ c .if1 .left)
 
 pub answer-state-spec : {M : Type 1} → statement M
 answer-state-spec = tie.close (tie.spec is-as-asked-requires returns returns-2)

@@ -1,9 +1,10 @@
 use borrow.Author.Needs.{needs}
+use Prim.Native.Nat.{ℕ, suc, _^_}
 use mathlib.Core.Path.{_∙_, ap}
 use mathlib.Core.Bool.{Bool, _&&_}
 use lib.Dec.{eqb}
 use borrow.Author.Tests.{eq-eqb, ne-eqb}
-use Rattle.rules.specs.Layout.{askedIndex}
+use Rattle.rules.specs.Layout.{askedIndex, takenIndex}
 use Rattle.rules.specs.Cells.{combinedCell, cellAt}
 use Rattle.soundness.specs.Soundness.{asAsked}
 use Rattle.soundness.proofs.Loops.{first-of, second-of}
@@ -16,24 +17,29 @@ shared-slice-read-if1 c = search needs
 shared-slice-read-result : tie.Need-shared-slice-read-result
 shared-slice-read-result c = search needs
 
-add-are-all : tie.Need-add-are-all
-add-are-all c = search needs
+add-pointers-of : tie.Need-add-pointers-of
+add-pointers-of c = search needs
 
-mul-are-all : tie.Need-mul-are-all
-mul-are-all c = search needs
+mul-pointers-of : tie.Need-mul-pointers-of
+mul-pointers-of c = search needs
 
-shared-slice-read-are-all : tie.Need-shared-slice-read-are-all
-shared-slice-read-are-all c = search needs
+shared-slice-read-pointers-of : tie.Need-shared-slice-read-pointers-of
+shared-slice-read-pointers-of c = search needs
 
-shared-slice-read-are-all-2 : tie.Need-shared-slice-read-are-all-2
-shared-slice-read-are-all-2 c = search needs
+pointers-of-requires : tie.Need-pointers-of-requires
+pointers-of-requires c κs = search needs
 
-are-all-requires : tie.Need-are-all-requires
-are-all-requires c κs = search needs
+shared-slice-read-name-all : tie.Need-shared-slice-read-name-all
+shared-slice-read-name-all c = search needs
+
+name-all-requires : tie.Need-name-all-requires
+name-all-requires c κs = search needs
 
 returns : tie.Need-returns
 unfolding asAsked
-returns c = ap (λ (b : Bool). eqb (cellAt (c .before .before .before .before .before .before .before .args .place .now) askedIndex) combinedCell && b) (c .are-all .ensures) ∙ first-of _ _ (eq-eqb _ _ (c .before .before .before .before .if1 .taken))
+returns c =
+    let place = c .before .before .before .before .before .before .before .before .args .place .now in
+    ap (λ (b : Bool). eqb (cellAt place askedIndex) combinedCell && b) (c .name-all .ensures ∙ ap (λ (n : ℕ). eqb (suc n) (2 ^ cellAt place takenIndex)) (c .before .before .pointers-of .ensures)) ∙ first-of _ _ (eq-eqb _ _ (c .before .before .before .before .before .if1 .taken))
 
 shared-slice-read-result-2 : tie.Need-shared-slice-read-result-2
 shared-slice-read-result-2 c = search needs
@@ -87,11 +93,12 @@ is-as-asked-spec =
     (tie.spec
     shared-slice-read-if1
     shared-slice-read-result
-    add-are-all
-    mul-are-all
-    shared-slice-read-are-all
-    shared-slice-read-are-all-2
-    are-all-requires
+    add-pointers-of
+    mul-pointers-of
+    shared-slice-read-pointers-of
+    pointers-of-requires
+    shared-slice-read-name-all
+    name-all-requires
     returns
     shared-slice-read-result-2
     shared-slice-read-result-3

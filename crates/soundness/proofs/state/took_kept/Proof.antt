@@ -1,10 +1,13 @@
 use borrow.Author.Needs.{needs}
 use native.Mathlib.Omega.{arith}
-use mathlib.Core.Path.{sym, _∙_}
+use mathlib.Core.Path.{_≡_, _∙_}
+use mathlib.Core.Bool.{true}
+use lib.ListN.{length-take, length-drop}
 use borrow.Author.Tests.{eq-eqb, ne-eqb}
-use Rattle.rules.specs.Layout.{listIndex, takenIndex}
-use Rattle.soundness.specs.Soundness.{tookKept}
-use Rattle.soundness.proofs.Lists.{list-cells}
+use Rattle.rules.specs.Layout.{answeredIndex, listIndex, takenIndex}
+use Rattle.rules.specs.Facts.{sameList}
+use Rattle.rules.specs.Cells.{combinedCell, cellAt}
+use Rattle.soundness.specs.Soundness.{cellsOfList, tookKept}
 use Rattle.soundness.proofs.Loops.{first-of, second-of}
 use Rattle.soundness.proofs.state.took_kept.Statement.{statement}
 use Rattle.soundness.proofs.state.took_kept.Tie as tie
@@ -31,11 +34,14 @@ part-same-cells-end-2 : tie.Need-part-same-cells-end-2
 part-same-cells-end-2 c = search needs
 
 same-cells-requires : tie.Need-same-cells-requires
-same-cells-requires c κs = list-cells (c .before .before .before .before .before .args .place .now) takenIndex (c .before .before .before .before .before .pre) (omega arith) ∙ sym (list-cells (c .before .before .before .before .before .args .place .now) listIndex (c .before .before .before .before .before .pre) (omega arith))
+same-cells-requires c κs = simp (length-take, length-drop) (omega (arith, c .before .before .before .before .before .pre))
 
 returns : tie.Need-returns
 unfolding tookKept
-returns c = c .same-cells .ensures ∙ first-of _ _ (eq-eqb _ _ (c .before .before .before .if1 .taken))
+returns c =
+    let place = c .before .before .before .before .before .before .args .place .now in
+    let is : c .same-cells .result ≡ sameList (cellsOfList place takenIndex) (cellsOfList place listIndex) = c .same-cells .ensures in
+    is ∙ first-of (sameList (cellsOfList place takenIndex) (cellsOfList place listIndex)) true (eq-eqb (cellAt place answeredIndex) combinedCell (c .before .before .before .if1 .taken))
 
 returns-2 : tie.Need-returns-2
 unfolding tookKept
