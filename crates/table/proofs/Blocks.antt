@@ -232,19 +232,19 @@ combine-block r p list is =
     ∙ sym (ap (λ (l : Option (List ℕ)). recordCells (with-facts r (onSettings (takeOver p l) (r .facts)))) is)
 
 -- what was asked, and the list that is kept
-asked-cells : (r : Record) (state : ℕ) (asked : Option Asking) (list : Option (List ℕ)) (experiment : ℕ) (l : List ℕ) → askedFits asked list ≡ true → askedFrom (shape r state (askedCells asked) experiment l []) askedIndex ≡ asked
-asked-cells r state none list experiment l e = refl
-asked-cells r state (some (askedSingle s)) list experiment l e = asked-back (some (askedSingle s)) list e
-asked-cells r state (some askedCombined) list experiment l e = refl
+asked-cells : (r : Record) (state : ℕ) (asked : Option Asking) (list : Option (List ℕ)) (experiment : ℕ) (answered rest : List ℕ) → askedFits asked list ≡ true → askedFrom (shape r state (askedCells asked) experiment answered rest) askedIndex ≡ asked
+asked-cells r state none list experiment answered rest e = refl
+asked-cells r state (some (askedSingle s)) list experiment answered rest e = asked-back (some (askedSingle s)) list e
+asked-cells r state (some askedCombined) list experiment answered rest e = refl
 
 pub asked-block : (r : Record) → askedFits (r .facts .settings .asked) (r .facts .settings .list) ≡ true → askedFrom (recordCells r) askedIndex ≡ r .facts .settings .asked
 unfolding recordCells
 asked-block r e =
     let t : Settings = r .facts .settings in
-    asked-cells r (t .state) (t .asked) (t .list) (t .experiment) (answeredCells (t .answered) ++ (formatCells (t .formats) modes ++ (listCells (t .list) ++ listCells (takenBy (t .answered))))) e
+    asked-cells r (t .state) (t .asked) (t .list) (t .experiment) (answeredCells (t .answered)) (formatCells (t .formats) modes ++ (listCells (t .list) ++ listCells (takenBy (t .answered)))) e
 
 -- its cells
-pub kept-block : (r : Record) → take 17 (drop listIndex (recordCells r)) ≡ listCells (r .facts .settings .list)
+pub kept-block : (r : Record) → take (suc mostEntries) (drop listIndex (recordCells r)) ≡ listCells (r .facts .settings .list)
 unfolding recordCells
 kept-block r =
     let t : Settings = r .facts .settings in
@@ -254,9 +254,9 @@ kept-block r =
     let x : List ℕ = askedCells (t .asked) in
     let y : List ℕ = answeredCells (t .answered) in
     let front : List ℕ = shape r (t .state) x (t .experiment) y [] in
-    ap (λ (l : List ℕ). take 17 (drop listIndex l)) (split r (t .state) x (t .experiment) y (fs ++ (kept ++ taken)) ∙ sym (append-assoc front fs (kept ++ taken)))
-    ∙ ap (take 17) (drop-at (front ++ fs) (kept ++ taken) listIndex (length-append front fs ∙ ap (λ (n : ℕ). n + 16) (front-length r (t .state) x (t .experiment) y (three-asked (t .asked)) (three-answered (t .answered)))))
-    ∙ take-at kept taken 17 (list-length (t .list))
+    ap (λ (l : List ℕ). take (suc mostEntries) (drop listIndex l)) (split r (t .state) x (t .experiment) y (fs ++ (kept ++ taken)) ∙ sym (append-assoc front fs (kept ++ taken)))
+    ∙ ap (take (suc mostEntries)) (drop-at (front ++ fs) (kept ++ taken) listIndex (length-append front fs ∙ ap (λ (n : ℕ). n + 16) (front-length r (t .state) x (t .experiment) y (three-asked (t .asked)) (three-answered (t .answered)))))
+    ∙ take-at kept taken (suc mostEntries) (list-length (t .list))
 
 -- ---- who a record is wired to
 

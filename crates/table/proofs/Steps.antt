@@ -1,55 +1,69 @@
 -- Each step of a table, by the cells of a sound one.
-use Prim.Native.Nat.{ℕ, _+_, _*_, _≤_, _<_}
+use Prim.Native.Nat.{ℕ, suc, _+_, _*_, _≤_, _<_}
 use native.Mathlib.Omega.{arith}
 use mathlib.Core.Path.{_≡_, refl, sym, _∙_, ap}
 use mathlib.Core.Bool.{Bool, true, false, cond}
 use mathlib.Core.List.{List, [], _∷_}
 use mathlib.Core.Option.{Option, none, some}
 use mathlib.Core.Logic.{⊎-elim}
-use borrow.Author.Tests.{eq-eqb}
+use borrow.Author.Tests.{eq-eqb, le-leb}
 use lib.Dec.{eqb}
-use lib.ListN.{length, getD, replicate}
-use Rattle.rules.specs.declared.Change.the-variants.{Unchanged, Formatted, Answered, Asked}
+use lib.ListN.{length, getD, take, drop, replicate}
+use lib.Seq.{ext-getD, getD-take, getD-drop}
+use Rattle.rules.specs.declared.Change.the-variants.{Unchanged, Formatted, Answered, Asked, Listed, Combined}
 use Rattle.rules.specs.declared.Effect.the-variants.{ToPort, Attach, AttachVirtual, Detach, Empty}
-use Rattle.rules.specs.Layout.{places, stride, tableSize, wiringIndex, firstIndex, secondIndex, askedIndex, answeredIndex}
-use Rattle.rules.specs.Learn.{answeredState, learn}
-use Rattle.rules.specs.Facts.{Facts, known, isVirtual}
+use Rattle.rules.specs.Layout.{places, stride, tableSize, wiringIndex, firstIndex, secondIndex, askedIndex, answeredIndex, listIndex, takenIndex}
+use Rattle.rules.specs.Learn.{answeredState, combinedState, learn}
+use Rattle.rules.specs.Facts.{Asking, askedSingle, askedCombined, Facts, known, isVirtual}
 use Rattle.rules.specs.declared.Setup.{Setup}
 use Rattle.rules.specs.declared.Format.{Format}
 use Rattle.rules.specs.declared.Wiring.{Wiring}
 use Rattle.rules.specs.declared.Wiring.the-variants.{Unjoined, Joined, Virtual}
 use Rattle.rules.specs.Table.{Record, Table, viewOfTable, fullTable, changed, change, remove, newRecord, wired, onSettings, dissolve, wiredAs, dissolveBy, detachBy, apply}
-use Rattle.protocol.specs.Form.{lastMode}
-use Rattle.rules.specs.Judge.{pairTest}
-use Rattle.rules.specs.Cells.{wiringCell, firstPartner, secondPartner, placeCells, cellsOf, tableAt, setupAt, sound, emptyCells}
+use Rattle.protocol.specs.Form.{lastMode, mostEntries}
+use Rattle.rules.specs.Judge.{pairTest, takesOver, toldRefusal}
+use Rattle.rules.specs.Cells.{wiringCell, firstPartner, secondPartner, combinedCell, listCells, recordCells, placeCells, cellsOf, tableAt, sound, emptyCells}
+use Rattle.rules.specs.Cells as Cells
 use Rattle.rules.proofs.Sound.{wiring?, wiredIn, Sound, seen}
 use Rattle.rules.proofs.Pairs.{Named, port-first, port-second, at-first, at-second, joined-virtual}
 use Rattle.rules.proofs.Apply.{wired-dissolve, sound-dissolve}
 use Rattle.rules.proofs.Kept.{good-pair}
+use Rattle.rules.proofs.SettingsFit.{InLists, listed}
+use Rattle.rules.proofs.CellsRecord.{list-length}
 use Rattle.rules.proofs.CellsSound.{sound-is, sound-length, empty-cells}
 use Rattle.rules.proofs.Laws.{table-sound}
 use Rattle.soundness.specs.Place.{placeOf, firstFree, cellOf, findPlace, freePlace}
-use Rattle.stores.specs.Stores.{put, stored, setupStores, askedStores, zeroed, askedAt, ifPlace, emptied, wiredAt}
+use Rattle.stores.specs.Stores.{put, stored, threeStores, setupStores, askingStores, askedStores, answeredStores, listedStores, takenStores, zeroed, askedAt, keptCells, combinedStateBy, listedAt, ifPlace, emptied, wiredAt}
 use Rattle.stores.proofs.IfPlace.{is-placed, both-wired}
 use Rattle.soundness.proofs.Places.{sixteen, find-place, free-place}
 use Rattle.stores.proofs.Stores.{cell-of, stored-length}
-use Rattle.table.proofs.Blocks.{wiring-stores, format-stores, attach-stores, virtual-stores, format-block, ask-block, answer-block, asked-block, kind-block, first-block, second-block, attach-block, virtual-block}
+use Rattle.stores.proofs.ListCells.{kept-length, kept-cell}
+use Rattle.table.proofs.Blocks.{wiring-stores, format-stores, attach-stores, virtual-stores, cells-within, format-block, ask-block, list-block, answer-block, combine-block, asked-block, kept-block, kind-block, first-block, second-block, attach-block, virtual-block}
 use Rattle.table.proofs.Changes.{stands, free-below, place-change, free-change, place-remove, freed-none}
 use Rattle.table.proofs.Lifts.{change-cells, remove-cells, insert-cells, pair-cells, dissolve-cells}
 use Rattle.table.proofs.Wirings.{present, kind-unjoined, kind-virtual, kind-joined, virtual-is, wired-known, wired-as}
 
 -- a port that is told nothing
-change-nothing : (port : ℕ) (t : Table) → change port (onSettings (learn Unchanged)) t ≡ t
+change-nothing : (port : ℕ) (t : Table) → change port (onSettings (learn Unchanged [])) t ≡ t
 unfolding learn
 change-nothing port [] = refl
 change-nothing port (none ∷ t) = ap (λ (u : Table). none ∷ u) (change-nothing port t)
 change-nothing port (some r ∷ t) =
-    let same : changed port (onSettings (learn Unchanged)) r ≡ r = λ i. record { port = r .port; facts = either (eqb (r .port) port) (r .facts) i } in
+    let same : changed port (onSettings (learn Unchanged [])) r ≡ r = λ i. record { port = r .port; facts = either (eqb (r .port) port) (r .facts) i } in
     λ i. some (same i) ∷ change-nothing port t i
   where
     either : (b : Bool) (f : Facts) → cond b f f ≡ f
     either true f = refl
     either false f = refl
+
+-- a 48 that is not refused takes over a list
+record KeptList (x : Option (List ℕ)) : Type 0 where
+  list : List ℕ
+  is : x ≡ some list
+
+kept-list : (p : ℕ) (x : Option (List ℕ)) → _≡_ {A = ℕ} (cond (takesOver p x) 0 21) 0 → KeptList x
+kept-list p none e = absurd (omega (arith, e))
+kept-list p (some list) e = record { list = list; is = refl }
 
 module _ (cells : List ℕ) (ok : sound cells ≡ true) where
   abbrev t : Table
@@ -90,7 +104,7 @@ module _ (cells : List ℕ) (ok : sound cells ≡ true) where
 
   -- ---- attaching
 
-  pub attach-is : (port device place : ℕ) (out : List ℕ) → fullTable t ≡ false → place ≡ firstFree t → out ≡ ifPlace cells place (stored cells place (attach-stores port device)) → out ≡ cellsOf (apply (Attach port device) t)
+  pub attach-is : (port device place : ℕ) (out : List ℕ) → fullTable t ≡ false → place ≡ firstFree t → out ≡ ifPlace cells place (stored cells place (attach-stores port device)) → out ≡ cellsOf (apply (Attach port device) [] t)
   unfolding apply
   attach-is port device place out room at new =
       is-placed cells place (stored cells place (attach-stores port device)) (sound-length cells ok) (room-below place room at) out new ∙ (λ i. stored (is i) (at i) (attach-stores port device))
@@ -102,7 +116,7 @@ module _ (cells : List ℕ) (ok : sound cells ≡ true) where
   pub attach-virtual-is : (port device a b place one two : ℕ) (mid out : List ℕ) → fullTable t ≡ false → pairTest (viewOfTable t) a b ≡ true → place ≡ firstFree t → one ≡ placeOf t a → two ≡ placeOf t b
       → mid ≡ wiredAt (wiredAt cells one 2 port) two 2 port
       → out ≡ ifPlace mid place (stored mid place (virtual-stores port device a b))
-      → out ≡ cellsOf (apply (AttachVirtual port device a b) t)
+      → out ≡ cellsOf (apply (AttachVirtual port device a b) [] t)
   unfolding apply
   attach-virtual-is port device a b place one two mid out room good at at-a at-b joining new =
       let g = good-pair t a b good in
@@ -121,7 +135,7 @@ module _ (cells : List ℕ) (ok : sound cells ≡ true) where
 
   -- ---- a port that is told nothing that is kept
 
-  pub unchanged-is : (port : ℕ) → cells ≡ cellsOf (apply (ToPort port Unchanged) t)
+  pub unchanged-is : (port : ℕ) → cells ≡ cellsOf (apply (ToPort port Unchanged) [] t)
   unfolding apply
   unchanged-is port = is ∙ ap cellsOf (sym (change-nothing port t))
 
@@ -137,6 +151,9 @@ module _ (cells : List ℕ) (ok : sound cells ≡ true) where
     abbrev itself : Record
     itself = record { port = port; facts = f }
 
+    abbrev below : place < places
+    below = present-below port place k at
+
     record-cell : (n : ℕ) → n < stride → cellOf cells place n ≡ getD (placeCells (some itself)) n 0
     record-cell n h =
         let s = stands t port f seen-as in
@@ -151,42 +168,94 @@ module _ (cells : List ℕ) (ok : sound cells ≡ true) where
     second-is : cellOf cells place secondIndex ≡ secondPartner (f .wiring)
     second-is = record-cell secondIndex (omega arith) ∙ second-block itself
 
+    abbrev in-lists : InLists (f .settings)
+    in-lists = listed (f .settings) (formed .loose .fit port f seen-as .settings .lists)
+
     asked-is : askedAt cells place ≡ f .settings .asked
-    asked-is = (λ i. setupAt (record-cell askedIndex (omega arith) i) (record-cell (askedIndex + 1) (omega arith) i) (record-cell (askedIndex + 2) (omega arith) i)) ∙ asked-block itself
+    asked-is = (λ i. Cells.askedAt (record-cell askedIndex (omega arith) i) (record-cell (askedIndex + 1) (omega arith) i) (record-cell (askedIndex + 2) (omega arith) i)) ∙ asked-block itself (in-lists .asked)
+
+    -- the cells of the list that it keeps
+    kept-is : keptCells cells place ≡ listCells (f .settings .list)
+    kept-is =
+        let mine : List ℕ = take (suc mostEntries) (drop listIndex (recordCells itself)) in
+        let many : length mine ≡ suc mostEntries = ap length (kept-block itself) ∙ list-length (f .settings .list) in
+        let size : length (keptCells cells place) ≡ suc mostEntries = kept-length cells place (sound-length cells ok) below in
+        ext-getD 0 (keptCells cells place) mine (size ∙ sym many)
+        (λ k h.
+        let low : k < suc mostEntries = omega (arith, size) in
+        kept-cell cells place (sound-length cells ok) below k (omega arith)
+        ∙ ap (λ (n : ℕ). getD cells n 0) (omega arith)
+        ∙ record-cell (listIndex + k) (omega arith)
+        ∙ sym (getD-take (suc mostEntries) (drop listIndex (recordCells itself)) k 0 low ∙ getD-drop listIndex (recordCells itself) k 0))
+        ∙ kept-block itself
 
     -- ---- what it is told
 
-    pub set-format-is : (mode : ℕ) (new : Format) → mode ≤ lastMode → stored cells place (format-stores mode new) ≡ cellsOf (apply (ToPort port (Formatted mode new)) t)
+    pub set-format-is : (mode : ℕ) (new : Format) → mode ≤ lastMode → stored cells place (format-stores mode new) ≡ cellsOf (apply (ToPort port (Formatted mode new)) [] t)
     unfolding apply
     set-format-is mode new h =
         (λ i. stored (is i) (at i) (format-stores mode new))
-        ∙ change-cells t port (onSettings (learn (Formatted mode new))) f (format-stores mode new) (formed .loose .distinct) seen-as (omega arith, tt) (format-block itself mode new h)
+        ∙ change-cells t port (onSettings (learn (Formatted mode new) [])) f (format-stores mode new) (formed .loose .distinct) seen-as (omega arith, tt) (format-block itself mode new h)
 
-    abbrev below : place < places
-    below = present-below port place k at
-
-    pub ask-is : (s : Setup) (x : ℕ) (out : List ℕ) → out ≡ ifPlace cells place (stored cells place (askedStores s x)) → out ≡ cellsOf (apply (ToPort port (Asked s x)) t)
+    pub ask-is : (s : Setup) (x : ℕ) (out : List ℕ) → out ≡ ifPlace cells place (stored cells place (askedStores s x)) → out ≡ cellsOf (apply (ToPort port (Asked s x)) [] t)
     unfolding apply
     ask-is s x out new =
         is-placed cells place (stored cells place (askedStores s x)) (sound-length cells ok) below out new ∙ (λ i. stored (is i) (at i) (askedStores s x))
-        ∙ change-cells t port (onSettings (learn (Asked s x))) f (askedStores s x) (formed .loose .distinct) seen-as
+        ∙ change-cells t port (onSettings (learn (Asked s x) [])) f (askedStores s x) (formed .loose .distinct) seen-as
         (omega arith, (omega arith, (omega arith, (omega arith, (omega arith, tt))))) (ask-block itself s x)
 
-    pub answer-is : (s : Setup) (out : List ℕ) → out ≡ ifPlace cells place (stored cells place (setupStores answeredIndex s (answeredState (askedAt cells place) s))) → out ≡ cellsOf (apply (ToPort port (Answered s)) t)
+    pub answer-is : (s : Setup) (out : List ℕ) → out ≡ ifPlace cells place (stored cells place (answeredStores s (answeredState (askedAt cells place) s))) → out ≡ cellsOf (apply (ToPort port (Answered s)) [] t)
     unfolding apply
     answer-is s out new =
         let state : ℕ = answeredState (askedAt cells place) s in
-        let now : state ≡ answeredState (f .settings .asked) s = ap (λ (x : Option Setup). answeredState x s) asked-is in
-        is-placed cells place (stored cells place (setupStores answeredIndex s state)) (sound-length cells ok) below out new ∙ (λ i. stored (is i) (at i) (setupStores answeredIndex s (now i)))
-        ∙ change-cells t port (onSettings (learn (Answered s))) f (setupStores answeredIndex s (answeredState (f .settings .asked) s)) (formed .loose .distinct) seen-as
-        (omega arith, (omega arith, (omega arith, (omega arith, tt)))) (answer-block itself s)
+        let now : state ≡ answeredState (f .settings .asked) s = ap (λ (x : Option Asking). answeredState x s) asked-is in
+        let many : length (replicate {A = ℕ} (suc mostEntries) 0) ≡ suc mostEntries = refl in
+        is-placed cells place (stored cells place (answeredStores s state)) (sound-length cells ok) below out new ∙ (λ i. stored (is i) (at i) (answeredStores s (now i)))
+        ∙ change-cells t port (onSettings (learn (Answered s) [])) f (answeredStores s (answeredState (f .settings .asked) s)) (formed .loose .distinct) seen-as
+        (cells-within takenIndex (replicate (suc mostEntries) 0) (omega (arith, many)) (setupStores answeredIndex s (answeredState (f .settings .asked) s)) (omega arith, (omega arith, (omega arith, (omega arith, tt))))) (answer-block itself s)
+
+    pub list-is : (o : List ℕ) (x : ℕ) (out : List ℕ) → length o ≤ mostEntries → out ≡ ifPlace cells place (listedAt cells place o x) → out ≡ cellsOf (apply (ToPort port (Listed x)) o t)
+    unfolding apply
+    list-is o x out few new =
+        is-placed cells place (listedAt cells place o x) (sound-length cells ok) below out new
+        ∙ ap (λ (b : Bool). cond b (stored cells place (listedStores o x)) cells) (le-leb (length o) mostEntries few)
+        ∙ (λ i. stored (is i) (at i) (listedStores o x))
+        ∙ change-cells t port (onSettings (learn (Listed x) o)) f (listedStores o x) (formed .loose .distinct) seen-as
+        (cells-within listIndex (listCells (some o)) (omega (arith, list-length (some o))) (askingStores combinedCell 0 0 x) (omega arith, (omega arith, (omega arith, (omega arith, (omega arith, tt)))))) (list-block itself o x)
+
+    -- the state after a 48, by the first cell of the list
+    combined-state : (p : ℕ) (list : List ℕ) → f .settings .list ≡ some list → combinedStateBy (askedAt cells place) p (cellOf cells place listIndex) ≡ combinedState (f .settings .asked) p list
+    unfolding listCells
+    combined-state p list e =
+        let count : cellOf cells place listIndex ≡ length list =
+        ap (λ (n : ℕ). getD cells n 0) (omega arith) ∙ sym (kept-cell cells place (sound-length cells ok) below 0 (omega arith)) ∙ ap (λ (l : List ℕ). getD l 0 0) (kept-is ∙ ap listCells e)
+        in
+        (λ i. combinedStateBy (asked-is i) p (count i)) ∙ by-asking (f .settings .asked)
+      where
+        by-asking : (x : Option Asking) → combinedStateBy x p (length list) ≡ combinedState x p list
+        by-asking none = refl
+        by-asking (some (askedSingle s)) = refl
+        by-asking (some askedCombined) = refl
+
+    pub combine-is : (p : ℕ) (out : List ℕ) → toldRefusal (Combined p) (viewOfTable t port) ≡ 0
+        → out ≡ ifPlace cells place (stored cells place (takenStores p (combinedStateBy (askedAt cells place) p (cellOf cells place listIndex)) (keptCells cells place)))
+        → out ≡ cellsOf (apply (ToPort port (Combined p)) [] t)
+    unfolding apply
+    combine-is p out told new =
+        let l = kept-list p (f .settings .list) (sym (ap (toldRefusal (Combined p)) seen-as) ∙ told) in
+        let xs : List ℕ = listCells (some (l .list)) in
+        let state : ℕ = combinedState (f .settings .asked) p (l .list) in
+        is-placed cells place (stored cells place (takenStores p (combinedStateBy (askedAt cells place) p (cellOf cells place listIndex)) (keptCells cells place))) (sound-length cells ok) below out new
+        ∙ (λ i. stored (is i) (at i) (takenStores p (combined-state p (l .list) (l .is) i) ((kept-is ∙ ap listCells (l .is)) i)))
+        ∙ change-cells t port (onSettings (learn (Combined p) [])) f (takenStores p state xs) (formed .loose .distinct) seen-as
+        (cells-within takenIndex xs (omega (arith, list-length (some (l .list)))) (threeStores answeredIndex combinedCell p 0 state) (omega arith, (omega arith, (omega arith, (omega arith, tt))))) (combine-block itself p (l .list) (l .is))
 
     -- ---- it goes
 
     abbrev as-wired : (y : Wiring) → f .wiring ≡ y → wiredIn t port ≡ some y
     as-wired y e = ap wiring? seen-as ∙ ap some e
 
-    pub detach-unjoined : (out : List ℕ) → cellOf cells place wiringIndex ≡ 1 → out ≡ ifPlace cells place (zeroed cells (stride * place) stride) → out ≡ cellsOf (apply (Detach port) t)
+    pub detach-unjoined : (out : List ℕ) → cellOf cells place wiringIndex ≡ 1 → out ≡ ifPlace cells place (zeroed cells (stride * place) stride) → out ≡ cellsOf (apply (Detach port) [] t)
     unfolding apply
     detach-unjoined out e new =
         let w = as-wired Unjoined (kind-unjoined (f .wiring) (sym kind-is ∙ e)) in
@@ -195,7 +264,7 @@ module _ (cells : List ℕ) (ok : sound cells ≡ true) where
     pub detach-pair : cellOf cells place wiringIndex ≡ 3 → isVirtual (wiredAs (viewOfTable t port)) ≡ true
     detach-pair e = ap (λ (x : Option Facts). isVirtual (wiredAs x)) seen-as ∙ kind-virtual (f .wiring) (sym kind-is ∙ e)
 
-    pub detach-virtual : (out : List ℕ) → cellOf cells place wiringIndex ≡ 3 → out ≡ cellsOf (dissolveBy port (wiredAs (viewOfTable t port)) t) → out ≡ cellsOf (apply (Detach port) t)
+    pub detach-virtual : (out : List ℕ) → cellOf cells place wiringIndex ≡ 3 → out ≡ cellsOf (dissolveBy port (wiredAs (viewOfTable t port)) t) → out ≡ cellsOf (apply (Detach port) [] t)
     unfolding apply
     detach-virtual out e new = new ∙ ap cellsOf (same (wiredAs (viewOfTable t port)) (detach-pair e))
       where
@@ -272,7 +341,7 @@ module _ (cells : List ℕ) (ok : sound cells ≡ true) where
           ∙ place-change (change (named .a) (wired Unjoined) t) (named .b) (wired Unjoined) port
           ∙ place-change t (named .a) (wired Unjoined) port
 
-      pub detach-joined : (mid out : List ℕ) → length mid ≡ tableSize → mid ≡ cellsOf (dissolveBy v (wiredAs (viewOfTable t v)) t) → out ≡ ifPlace mid place (zeroed mid (stride * place) stride) → out ≡ cellsOf (apply (Detach port) t)
+      pub detach-joined : (mid out : List ℕ) → length mid ≡ tableSize → mid ≡ cellsOf (dissolveBy v (wiredAs (viewOfTable t v)) t) → out ≡ ifPlace mid place (zeroed mid (stride * place) stride) → out ≡ cellsOf (apply (Detach port) [] t)
       unfolding apply
       detach-joined mid out size dissolving new =
           let s = seen (viewOfTable rest port) Unjoined still in
@@ -284,7 +353,7 @@ module _ (cells : List ℕ) (ok : sound cells ≡ true) where
 
 -- ---- emptying
 
-pub empty-is : (cells out : List ℕ) → sound cells ≡ true → out ≡ emptied cells → out ≡ cellsOf (apply Empty (tableAt cells))
+pub empty-is : (cells out : List ℕ) → sound cells ≡ true → out ≡ emptied cells → out ≡ cellsOf (apply Empty [] (tableAt cells))
 unfolding apply
 empty-is cells out ok new =
     new ∙ ap (λ (b : Bool). cond b emptyCells cells) (eq-eqb (length cells) tableSize (sound-length cells ok))
