@@ -135,6 +135,9 @@ two-numbers n m (Message'.InputFormatCombined p c w) = no-asking refl refl
 pub same-datasets : (n m : ℕ) (message : Message) (ports : Ports) (bytes : List ℕ) (k : ℕ) → datasetAnswer ports (effectOf n message) bytes k ≡ datasetAnswer ports (effectOf m message) bytes k
 same-datasets n m message = two-numbers n m message .datasets
 
+pub same-heard : (n m : ℕ) (message : Message) (opens : List ℕ) → heard (effectOf n message) opens ≡ heard (effectOf m message) opens
+same-heard n m message opens = ap (λ (b : Bool). cond b opens []) (two-numbers n m message .opens)
+
 -- two answers: accepted alike, and the cells after them
 record Close (cells : List ℕ) (a b : Answer Event) : Type 0 where
   accepts : outcome a ≡ outcome b

@@ -14,12 +14,13 @@ use Rattle.protocol.specs.declared.Message.{Message}
 use Rattle.protocol.specs.declared.Way.{Way}
 use Rattle.protocol.proofs.Answers.{message-back}
 use Rattle.rules.specs.Answer.{Answer, refused, accepted, unlessRefused}
-use Rattle.rules.specs.Effect.{effectOf}
+use Rattle.rules.specs.Effect.{Event, event, effectOf}
 use Rattle.rules.specs.Facts.{known}
 use Rattle.rules.specs.declared.Change.{Change}
 use Rattle.rules.specs.declared.Effect.{Effect}
 use Rattle.rules.specs.declared.Effect.the-variants as Case
-use Rattle.rules.specs.Judge.{judge, pairTest}
+use Rattle.rules.specs.Judge.{judge, pairTest, toldRefusal}
+use Rattle.rules.specs.OpenBytes.{heard, listIn, opensIn}
 use Rattle.rules.specs.Ranges.{changeFits, effectFits}
 use Rattle.rules.specs.Table.{fullTable, apply}
 use Rattle.rules.specs.Cells.{cellsOf, tableAt, sound}
@@ -27,7 +28,7 @@ use Rattle.rules.specs.Offer.{Entry, judgeReading, judgeEntry, portsOfCells, of
 use Rattle.rules.proofs.CellsSound.{sound-is}
 use Rattle.rules.proofs.Effect.{the-type}
 use Rattle.rules.proofs.Kept.{fresh-by, virtual-by, wanted}
-use Rattle.rules.proofs.OpenBytes.{open-alike}
+use Rattle.rules.proofs.OpenBytes.{opens-are}
 use Rattle.rules.proofs.Ranges.{effect-fits}
 use Rattle.rules.specs.Layout.{experimentCount, tableSize}
 use Rattle.table.specs.Judged.{refusalBy, judgedBy}
@@ -40,9 +41,9 @@ module _ (cells s : List ℕ) (e : Effect) (good : refusalBy cells e s ≡ 0) wh
   by : (case : Effect) → e ≡ case → refusalBy cells case s ≡ 0
   by case is = sym (ap (λ (x : Effect). refusalBy cells x s) is) ∙ good
 
-  pub tell-ready : (port : ℕ) (c : Change) → e ≡ Case.ToPort port c → known (viewOfCells cells port) ≡ true
+  pub tell-ready : (port : ℕ) (c : Change) → e ≡ Case.ToPort port c → toldRefusal c (viewOfCells cells port) ≡ 0
   unfolding judge
-  tell-ready port c is = wanted (viewOfCells cells port) (by (Case.ToPort port c) is)
+  tell-ready port c is = by (Case.ToPort port c) is
 
   pub attach-ready : (port device : ℕ) → e ≡ Case.Attach port device → fullTable (tableAt cells) ≡ false
   unfolding judge
@@ -59,34 +60,35 @@ module _ (cells s : List ℕ) (e : Effect) (good : refusalBy cells e s ≡ 0) wh
   detach-ready port is = wanted (viewOfCells cells port) (by (Case.Detach port) is)
 
 -- what a port is told is within its lists
-pub change-ready : (e : Effect) → effectFits e ≡ true → (port : ℕ) (c : Change) → e ≡ Case.ToPort port c → changeFits c ≡ true
-change-ready e fits port c is = sym (ap effectFits is) ∙ fits
+pub change-ready : (e : Effect) (s : List ℕ) → effectFits e (opensIn e s) ≡ true → (port : ℕ) (c : Change) → e ≡ Case.ToPort port c → changeFits c (listIn c s) ≡ true
+change-ready e s fits port c is = sym (ap (λ (x : Effect). effectFits x (opensIn x s)) is) ∙ fits
 
 -- ---- what changes
 
-pub changed-as : (cells out : List ℕ) (e case : Effect) → e ≡ case → out ≡ cellsOf (apply case (tableAt cells)) → out ≡ cellsOf (apply e (tableAt cells))
-changed-as cells out e case is k = k ∙ sym (ap (λ (x : Effect). cellsOf (apply x (tableAt cells))) is)
+pub changed-as : (cells out s : List ℕ) (e case : Effect) → e ≡ case → out ≡ cellsOf (apply case (opensIn case s) (tableAt cells)) → out ≡ cellsOf (apply e (opensIn e s) (tableAt cells))
+changed-as cells out s e case is k = k ∙ sym (ap (λ (x : Effect). cellsOf (apply x (opensIn x s) (tableAt cells))) is)
 
 -- the effects by which nothing changes, by their tags
 abbrev others : List ℕ
-others = 0 ∷ 5 ∷ 6 ∷ 7 ∷ 9 ∷ 10 ∷ []
+others = 0 ∷ 5 ∷ 6 ∷ 7 ∷ 9 ∷ 10 ∷ 11 ∷ []
 
-stays : (cells : List ℕ) (e : Effect) → OneOf others (tagOf the-type e) → apply e (tableAt cells) ≡ tableAt cells
+stays : (cells opens : List ℕ) (e : Effect) → OneOf others (tagOf the-type e) → apply e opens (tableAt cells) ≡ tableAt cells
 unfolding apply
-stays cells Case.Nothing t = refl
-stays cells (Case.ToPort p c) t = absurd (miss others 1 tt t)
-stays cells (Case.Attach p d) t = absurd (miss others 2 tt t)
-stays cells (Case.AttachVirtual p d a b) t = absurd (miss others 3 tt t)
-stays cells (Case.Detach p) t = absurd (miss others 4 tt t)
-stays cells (Case.Value p) t = refl
-stays cells (Case.Disconnect p) t = refl
-stays cells (Case.Connect a b) t = refl
-stays cells Case.Empty t = absurd (miss others 8 tt t)
-stays cells (Case.ToVirtual p) t = refl
-stays cells Case.Feedback t = refl
+stays cells opens Case.Nothing t = refl
+stays cells opens (Case.ToPort p c) t = absurd (miss others 1 tt t)
+stays cells opens (Case.Attach p d) t = absurd (miss others 2 tt t)
+stays cells opens (Case.AttachVirtual p d a b) t = absurd (miss others 3 tt t)
+stays cells opens (Case.Detach p) t = absurd (miss others 4 tt t)
+stays cells opens (Case.Value p) t = refl
+stays cells opens (Case.Disconnect p) t = refl
+stays cells opens (Case.Connect a b) t = refl
+stays cells opens Case.Empty t = absurd (miss others 8 tt t)
+stays cells opens (Case.ToVirtual p) t = refl
+stays cells opens Case.Feedback t = refl
+stays cells opens (Case.CombinedValue p w) t = refl
 
-pub unchanged : (cells : List ℕ) (e : Effect) → sound cells ≡ true → OneOf others (tagOf the-type e) → cells ≡ cellsOf (apply e (tableAt cells))
-unchanged cells e s t = sound-is cells s .0 ∙ sym (ap cellsOf (stays cells e t))
+pub unchanged : (cells opens : List ℕ) (e : Effect) → sound cells ≡ true → OneOf others (tagOf the-type e) → cells ≡ cellsOf (apply e opens (tableAt cells))
+unchanged cells opens e s t = sound-is cells s .0 ∙ sym (ap cellsOf (stays cells opens e t))
 
 -- ---- any message
 
@@ -106,19 +108,24 @@ module _ (cells s : List ℕ) (way : Way) (experiment : ℕ) (good : sound cells
   unfolding judgeEntry
   offered-message m e read is =
       let ports = portsOfCells cells in
+      let heardBy : Effect → List ℕ → Answer Event = λ x opens. unlessRefused (judge ports x opens) (accepted (event x opens)) in
       offer-sound cells entry good
       ∙ ap (judgeReading ports s experiment) read
-      ∙ ap (λ (x : Message). unlessRefused (judge ports (effectOf experiment x) (openOf s (Decode.accepted (formOf m) (valuesOf m)))) (accepted (effectOf experiment x))) (message-back m)
-      ∙ ap (λ (n : ℕ). unlessRefused n (accepted (effectOf experiment m))) (open-alike experiment m s .judges ports)
+      ∙ ap (λ (x : Message). heardBy (effectOf experiment x) (heard (effectOf experiment x) (openOf s (Decode.accepted (formOf m) (valuesOf m))))) (message-back m)
+      ∙ ap (heardBy (effectOf experiment m)) (opens-are experiment m s)
       ∙ ap (λ (x : Effect). judgedBy cells x s) (sym is)
 
-  pub cells-by : (v : Answer Effect) → offerByCells cells entry ≡ v → cellsAfter cells entry ≡ appliedTo cells v
+  pub cells-by : (v : Answer Event) → offerByCells cells entry ≡ v → cellsAfter cells entry ≡ appliedTo cells v
   unfolding cellsAfter
   cells-by v e = ap (appliedTo cells) e
 
 -- the fields of an accepted message are within their lists
-pub fits-by : (s : List ℕ) (way : Way) (experiment : ℕ) (m : Message) (e : Effect) → Bytes s → experiment < experimentCount → decode way s ≡ Decode.accepted (formOf m) (valuesOf m) → e ≡ effectOf experiment m → effectFits e ≡ true
-fits-by s way experiment m e bytes small read is = ap effectFits (is ∙ sym (ap (effectOf experiment) (message-back m))) ∙ effect-fits experiment (lt-ltb experiment experimentCount small) way s bytes (formOf m) (valuesOf m) read
+pub fits-by : (s : List ℕ) (way : Way) (experiment : ℕ) (m : Message) (e : Effect) → Bytes s → experiment < experimentCount → decode way s ≡ Decode.accepted (formOf m) (valuesOf m) → e ≡ effectOf experiment m → effectFits e (opensIn e s) ≡ true
+fits-by s way experiment m e bytes small read is =
+    ap (λ (x : Effect). effectFits x (opensIn x s)) is
+    ∙ sym (ap (effectFits (effectOf experiment m)) (opens-are experiment m s))
+    ∙ sym (ap (λ (x : Message). effectFits (effectOf experiment x) (heard (effectOf experiment x) (openOf s (Decode.accepted (formOf m) (valuesOf m))))) (message-back m))
+    ∙ effect-fits experiment (lt-ltb experiment experimentCount small) way s bytes (formOf m) (valuesOf m) read
 
 -- ---- emptying
 

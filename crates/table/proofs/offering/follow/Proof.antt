@@ -1,4 +1,5 @@
 use borrow.Author.Needs.{needs}
+use Rattle.rules.specs.OpenBytes.{opensIn}
 use Rattle.table.proofs.Offers.{tell-ready, change-ready, attach-ready, virtual-ready, detach-ready, changed-as, unchanged}
 use Rattle.table.proofs.Steps.{empty-is}
 use Rattle.table.proofs.offering.follow.Statement.{statement}
@@ -12,7 +13,7 @@ tell-requires c κs =
     let p = c .before .before .before .before .before .before .pre in
     let a = c .before .before .before .before .before .before .args in
     let cells = a .table .now in
-    (p .0, tell-ready cells (a .message .now) (a .e) (p .2) _ _ (c .before .before .e .given .1), change-ready (a .e) (p .1) _ _ (c .before .before .e .given .1))
+    (p .0, tell-ready cells (a .message .now) (a .e) (p .2) _ _ (c .before .before .e .given .1), change-ready (a .e) (a .message .now) (p .1) _ _ (c .before .before .e .given .1))
 
 enum-known-e-2 : tie.Need-enum-known-e-2
 enum-known-e-2 c = search needs
@@ -58,7 +59,7 @@ returns : tie.Need-returns
 returns c =
     let a = c .before .before .before .before .before .before .before .before .before .args in
     let cells = a .table .now in
-    changed-as cells (c .before .before .tell .last .0) (a .e) _ (c .before .before .before .before .before .e .given .1) (c .before .before .tell .ensures)
+    changed-as cells (c .before .before .tell .last .0) (a .message .now) (a .e) _ (c .before .before .before .before .before .e .given .1) (c .before .before .tell .ensures)
 
 same-length-2 : tie.Need-same-length-2
 same-length-2 c = search needs
@@ -67,7 +68,7 @@ returns-2 : tie.Need-returns-2
 returns-2 c =
     let a = c .before .before .before .before .before .before .before .before .before .args in
     let cells = a .table .now in
-    changed-as cells (c .before .before .attach .last .0) (a .e) _ (c .before .before .before .before .before .e2 .given .1) (c .before .before .attach .ensures)
+    changed-as cells (c .before .before .attach .last .0) (a .message .now) (a .e) _ (c .before .before .before .before .before .e2 .given .1) (c .before .before .attach .ensures)
 
 same-length-3 : tie.Need-same-length-3
 same-length-3 c = search needs
@@ -76,7 +77,7 @@ returns-3 : tie.Need-returns-3
 returns-3 c =
     let a = c .before .before .before .before .before .before .before .before .before .args in
     let cells = a .table .now in
-    changed-as cells (c .before .before .attach-virtual .last .0) (a .e) _ (c .before .before .before .before .before .e3 .given .1) (c .before .before .attach-virtual .ensures)
+    changed-as cells (c .before .before .attach-virtual .last .0) (a .message .now) (a .e) _ (c .before .before .before .before .before .e3 .given .1) (c .before .before .attach-virtual .ensures)
 
 same-length-4 : tie.Need-same-length-4
 same-length-4 c = search needs
@@ -85,7 +86,7 @@ returns-4 : tie.Need-returns-4
 returns-4 c =
     let a = c .before .before .before .before .before .before .before .before .before .args in
     let cells = a .table .now in
-    changed-as cells (c .before .before .detach .last .0) (a .e) _ (c .before .before .before .before .before .e4 .given .1) (c .before .before .detach .ensures)
+    changed-as cells (c .before .before .detach .last .0) (a .message .now) (a .e) _ (c .before .before .before .before .before .e4 .given .1) (c .before .before .detach .ensures)
 
 same-length-5 : tie.Need-same-length-5
 same-length-5 c = search needs
@@ -95,13 +96,13 @@ returns-5 c =
     let p = c .before .before .before .before .before .before .before .before .pre in
     let a = c .before .before .before .before .before .before .before .before .args in
     let cells = a .table .now in
-    changed-as cells (c .before .before .clear .last .0) (a .e) _ (c .before .before .before .before .enum-told .given .1) (empty-is cells (c .before .before .clear .last .0) (p .0) (c .before .before .clear .ensures))
+    changed-as cells (c .before .before .clear .last .0) (a .message .now) (a .e) _ (c .before .before .before .before .enum-told .given .1) (empty-is cells (c .before .before .clear .last .0) (p .0) (c .before .before .clear .ensures))
 
 returns-6 : tie.Need-returns-6
 returns-6 c =
     let a = c .before .before .before .args in
     let cells = a .table .now in
-    unchanged cells (a .e) (c .before .before .before .pre .0) (c .match .keys6)
+    unchanged cells (opensIn (a .e) (a .message .now)) (a .e) (c .before .before .before .pre .0) (c .match .keys6)
 
 pub follow-spec : {M : Type 1} → statement M
 follow-spec =
