@@ -1319,7 +1319,7 @@ fn lists_of_messages() {
         for _ in 0..300 {
             let (way, message, experiment) = traffic.next(trio.table());
             let form = decode(way, &message).map_or(0, |it| usize::from(it.form.number()));
-            if form >= 34 {
+            if (34..=38).contains(&form) {
                 let answer = trio.table().clone().offer(way, &message, experiment);
                 let column = match answer.map_err(|refusal| refusal.number) {
                     Ok(()) => 0,

@@ -162,6 +162,11 @@ impl CombinedTally {
             .or_default() += 1;
     }
 
+    /// Whether nothing was counted.
+    pub fn is_empty(&self) -> bool {
+        self.seen.is_empty()
+    }
+
     /// Panics unless each of these came at least `least` times.
     pub fn expect(&self, least: u64) {
         for name in ALL {

@@ -75,8 +75,10 @@ pub const COMBINED: &[TableExample] = &[
         accepted(Up, FORMAT_2),
         accepted(Down, ASK_FIRST),
         accepted(Up, BOTH),
+        accepted(Up, VALUE_OF_FIRST),
         handed_out(VALUE_OF_FIRST, 0, [0, 1], AsAsked, Whole(-128)),
         withheld(Up, VALUE_OF_FIRST, 1, 17, 0),
+        accepted(Up, VALUE_OF_SECOND),
         handed_out(VALUE_OF_SECOND, 0, [0, 2], AsAsked, Whole(-2)),
         withheld(Up, VALUE_OF_SECOND, 1, 17, 0),
         accepted(Down, ASK_SECOND),
@@ -317,6 +319,7 @@ pub const COMBINED: &[TableExample] = &[
         refused(Up, "0C 00 46 00 0A 00 00 00 80 3F FE 00", 16, 0),
         refused(Up, "08 00 46 00 08 00 FE FF", 16, 0),
         withheld(Up, "08 00 46 00 08 00 FE FF", 9, 16, 0),
+        accepted(Up, "0B 00 46 00 0A 00 00 00 80 3F FE"),
         handed_out("0B 00 46 00 0A 00 00 00 80 3F FE", 0, [0, 3], Otherwise, Float(0x3F80_0000)),
         handed_out("0B 00 46 00 0A 00 00 00 80 3F FE", 1, [0, 1], Otherwise, Whole(-2)),
         // With two datasets in mode 1 there is still no dataset 15; with sixteen there is.
