@@ -55,6 +55,14 @@ port 1: feedback 8
 written: 12 00 81 00 11 0E 5A 00 00 00 A6 FF FF FF 32 64 7E 03
 refusal 22, place 0
 ";
+const COMBINED_VALUES: &str = "\
+written: 09 00 42 02 01 00 00 60 62
+port 2, mode 0, state 2, experiment 301: 3
+port 2, mode 6, state 2, experiment 301: 50
+port 2, mode 6, state 2, experiment 301: 205
+port 2, mode 6, state 2, experiment 301: 210
+refusal 21, place 0
+";
 
 #[derive(Clone, Copy, Debug)]
 enum Language {
@@ -134,6 +142,7 @@ fn examples_print_what_they_should() {
             ("write_and_read", WRITE_AND_READ),
             ("port_table", PORT_TABLE),
             ("drive_virtual", DRIVE_VIRTUAL),
+            ("combined_values", COMBINED_VALUES),
         ] {
             let program = build(name, language, "printed");
             assert_eq!(accepted(&mut Command::new(program)), wanted, "{name} in {language:?}");
@@ -1054,6 +1063,34 @@ fn functions_for_rust_call_the_library() {
     assert_eq!(rows, [0, 7, 9, 3, 2, 301, 0, minus_two, 9, 3, 2, 301, 70]);
     assert_eq!(castanetash::values(&table, value, 1, &mut rows[..11]), refused(255, 0));
     assert_eq!(castanetash::values(&table, no_value, 1, &mut rows), refused(6, 5));
+
+    // Port 9 is combined for a while: the list is mode 3's second dataset alone.
+    let list = b"\x07\x00\x42\x09\x01\x05\x31";
+    let combined = b"\x07\x00\x48\x09\x00\x01\x00";
+    let combined_value = b"\x08\x00\x46\x09\x01\x00\xFE\xFF";
+    let mut cells = [7; 17];
+    assert_eq!(castanetash::read(list, 0, &mut cells), Ok(castanetash::ROW_CELLS));
+    assert_eq!(cells, [40, 6, 1, 3, 9, 1, 5, 0, 0, 0, 0, 0, 0, 0, 0, 0, 7]);
+    assert_eq!(castanetash::write(&cells, 0, &[0x31], &mut out), Ok(7));
+    assert_eq!(out[..7], *list);
+    assert_eq!(castanetash::write(&cells, 0, &[0x31, 0x31], &mut out), refused(7, 7));
+    assert_eq!(castanetash::write(&cells, 0, &[], &mut out), refused(6, 7));
+    let mut changed = table;
+    assert_eq!(castanetash::offer(&mut changed, combined, 1, 0), refused(21, 0));
+    assert_eq!(castanetash::offer(&mut changed, combined_value, 1, 0), refused(20, 0));
+    assert_eq!(castanetash::offer(&mut changed, list, 0, 302), Ok(0));
+    assert_eq!(castanetash::offer(&mut changed, combined, 1, 0), Ok(0));
+    assert_eq!(castanetash::dataset(&changed, combined_value, 1, 0, &mut row), Ok(6));
+    assert_eq!(row, [0, minus_two, 9, 3, 2, 302, 70]);
+    assert_eq!(castanetash::values(&changed, combined_value, 1, &mut rows), Ok(1));
+    assert_eq!(rows[..6], [0, minus_two, 9, 3, 2, 302]);
+    assert_eq!(castanetash::values(&changed, value, 1, &mut rows), refused(14, 0));
+    let mut cells = [70; 50];
+    assert_eq!(castanetash::port(&changed, 9, &mut cells), Ok(49));
+    assert_eq!(cells[..14], [1, 38, 0, 0, 2, 2, 0, 0, 0, 2, 0, 0, 0, 302]);
+    assert_eq!(cells[14..18], [1, 1, 0x31, 0]);
+    assert_eq!(cells[32..35], [1, 0x31, 0]);
+    assert_eq!(cells[49], 70);
 
     let mut ports = [70; 2];
     assert_eq!(castanetash::ports(&table, &mut ports), Ok(1));
