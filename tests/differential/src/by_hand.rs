@@ -28,6 +28,13 @@ impl Given {
         self.0[number as usize] += 1;
     }
 
+    /// Adds what was counted elsewhere.
+    pub fn add(&mut self, other: &Given) {
+        for (count, more) in self.0.iter_mut().zip(other.0) {
+            *count += more;
+        }
+    }
+
     /// How often each number came, 0 for acceptance.
     pub fn seen(&self) -> &[u64; 256] {
         &self.0
