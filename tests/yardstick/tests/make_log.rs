@@ -162,6 +162,34 @@ fn every_form_and_refusal() {
     assert_eq!(refusals, all);
 }
 
+/// The messages of combined mode have every answer that they can get, at the start of the log too.
+#[test]
+fn every_answer_of_combined_mode() {
+    let wanted: [(u8, &[i64]); 3] = [
+        (0x42, &[0, 5, 6, 7, 10]),
+        (0x46, &[0, 5, 6, 10, 15, 16, 17, 18, 20, 21]),
+        (0x48, &[0, 5, 6, 10, 21]),
+    ];
+    for (seed, records) in [(4, 100), (5, 30_000)] {
+        let log = every(seed, records);
+        let lines = lines(&log);
+        for (message_type, answers) in wanted {
+            let of_type = lines
+                .iter()
+                .zip(log.chunks(LOG_RECORD))
+                .filter(|(_, record)| record[10] == message_type);
+            let seen: BTreeSet<i64> = of_type.map(|(line, _)| line.refusal).collect();
+            println!("{records} records, {message_type:02X}: {seen:?}");
+            // What reading refuses comes in the random part.
+            let wanted = answers.iter().filter(|&&it| records > 100 || it == 0 || it >= 7);
+            assert!(
+                wanted.clone().all(|it| seen.contains(it)),
+                "{message_type:02X}: {seen:?}"
+            );
+        }
+    }
+}
+
 /// The log in `examples/` is the one that is made, whole.
 #[test]
 fn the_hour_is_stored() {

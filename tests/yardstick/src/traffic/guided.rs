@@ -310,14 +310,10 @@ impl Traffic {
 
     /// A 46. If no port is combined yet, mostly what goes before it: a list, or a 48.
     fn combined_value_or_before(&mut self, table: &Table) -> (Way, Vec<u8>) {
-        let has = |is_such: &dyn Fn(&Port) -> bool| {
-            self.ports
-                .iter()
-                .filter_map(|&it| table.port(it))
-                .any(|it| is_such(&it))
-        };
-        let has_list = has(&|port| port.list.is_some());
-        let has_combined = has(&|port| matches!(port.answered, Some(Answered::Combined { .. })));
+        let ports: Vec<Port> = self.ports.iter().filter_map(|&port| table.port(port)).collect();
+        let has_list = ports.iter().any(|port| port.list.is_some());
+        let is_combined = |port: &Port| matches!(port.answered, Some(Answered::Combined { .. }));
+        let has_combined = ports.iter().any(is_combined);
         if has_combined || self.random.once_in(4) {
             self.combined_value(table)
         } else if has_list {
