@@ -66,11 +66,8 @@ fn make(name: &str) -> [u32; TABLE_CELLS] {
                 set_up(&mut table, port, 16);
             }
             ask(&mut table, 1, 15);
-            let mut list = [0; 22];
-            list[..6].copy_from_slice(&[22, 0, 0x42, 2, 1, 0]);
-            (list[6..].iter_mut())
-                .zip(0xF0..)
-                .for_each(|(entry, dataset)| *entry = dataset);
+            let mut list = vec![22, 0, 0x42, 2, 1, 0];
+            list.extend(0xF0..=0xFF);
             accept(&mut table, DOWN, &list);
             accept(&mut table, UP, &[7, 0, 0x48, 2, 0, 0xFF, 0xFF]);
         }
