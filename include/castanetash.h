@@ -2,7 +2,8 @@
  *
  * castanetash_read takes one message apart into a row of numbers, and castanetash_write makes a message of such a row.
  * castanetash_offer follows the messages of one hub in a table, and castanetash_values reads a value by that table, in
- * the mode that the hub last answered. castanetash_read_block does so with the records of a log.
+ * the mode, or by the list of modes and datasets, that the hub last answered. castanetash_read_block does so with the
+ * records of a log.
  *
  * A message is 3 to 127 bytes: its length, the hub id 0, its type, then its fields. It goes down, to the hub, or up,
  * from the hub; its bytes don't say which, so the caller does. Types are hex below, other numbers decimal.
@@ -65,12 +66,20 @@ enum castanetash_refusal {
     CASTANETASH_REFUSED_PAIR = 12,         /* a bad pair: a member is absent, virtual or joined already, or both are the
                                               same; or a port to be disconnected is not virtual */
     CASTANETASH_REFUSED_TABLE_FULL = 13,   /* sixteen ports are present already */
-    CASTANETASH_REFUSED_NO_MODE = 14,      /* a value of a port that has no mode yet: no 47 since it was attached */
-    CASTANETASH_REFUSED_NO_FORMAT = 15,    /* a value in a mode that has no format yet: no such 44 since then */
-    CASTANETASH_REFUSED_VALUE_SIZE = 16,   /* a value whose bytes are not datasets times width of its format */
-    CASTANETASH_REFUSED_NO_DATASET = 17,   /* no dataset of that number; any message but a value has none */
-    CASTANETASH_REFUSED_NOT_FINITE = 18,   /* a float dataset is an infinity or a NaN */
+    CASTANETASH_REFUSED_NO_MODE = 14,      /* a 45 of a port that has no mode: no 47 since it was attached, or a 48
+                                              since its latest 47 */
+    CASTANETASH_REFUSED_NO_FORMAT = 15,    /* a value in a mode that has no format yet: no such 44 since the port was
+                                              attached; of a 46 any mode of the entries pointed at */
+    CASTANETASH_REFUSED_VALUE_SIZE = 16,   /* a value whose bytes are not datasets times width of its format; of a 46
+                                              not the widths of the entries pointed at together */
+    CASTANETASH_REFUSED_NO_DATASET = 17,   /* no dataset of that number; any message but a 45 or 46 has none; or a 46
+                                              points at an entry whose dataset its mode's format has not */
+    CASTANETASH_REFUSED_NOT_FINITE = 18,   /* a float dataset, of a 45 or 46, is an infinity or a NaN */
     CASTANETASH_REFUSED_LOG_RECORD = 19,   /* a log's record is malformed: only in the text of castanetash_read_block */
+    CASTANETASH_REFUSED_NOT_COMBINED = 20, /* a 46 of a port that is not combined: no 48 since it was attached, or a 47
+                                              since its latest 48 */
+    CASTANETASH_REFUSED_POINTERS = 21,     /* a 48 of a port that has no list, or with a pointer past the list; a 46
+                                              with a pointer that the latest 48 has not; either without a pointer */
     CASTANETASH_REFUSED_NOT_VIRTUAL = 22,  /* a command for two motors to a port that is not virtual */
     CASTANETASH_REFUSED_READ_ONLY = 23,    /* castanetash_write is given a form that is read only */
     CASTANETASH_REFUSED_ROW = 255          /* a lent row is too short for the answer; or castanetash_write is given a
@@ -87,8 +96,8 @@ enum castanetash_refusal {
 
 enum castanetash_row {
     CASTANETASH_ROW_FORM = 0,       /* one of enum castanetash_form */
-    CASTANETASH_ROW_OPEN_START = 1, /* where the open bytes (a name, symbol, text or value, or pairs of port and
-                                       feedback) start in the message */
+    CASTANETASH_ROW_OPEN_START = 1, /* where the open bytes (a name, symbol, text or value, pairs of port and feedback,
+                                       or a list) start in the message */
     CASTANETASH_ROW_OPEN_COUNT = 2, /* how many they are, 0 for most forms */
     CASTANETASH_ROW_COUNT = 3,      /* how many values the form has */
     CASTANETASH_ROW_VALUES = 4      /* the first value; the others follow, and zeros after them */
@@ -111,10 +120,11 @@ uint64_t castanetash_read(const uint8_t *message, size_t message_len, uint8_t wa
  *   7 for its selectors from left to right, one wider than its byte too; and at the last of them if they lead to
  *     another form than the row's;
  *   6 if there are too few or too many open bytes, or any for a form without them, or an odd number of bytes for
- *     feedback (82), or the count of a list (43) is not 1 to 8: with the smallest size of the form, which for a list
- *     is 7 and for feedback 5;
+ *     feedback (82), or the count of combinations (43) is not 1 to 8: with the smallest size of the form, which for
+ *     combinations is 7 and for feedback 5;
  *   7 for its other fields from left to right: a number that is not in its list, such as a mode of 16 or 300 or a speed
- *     of -101 or 200, a float that is not finite, a number too wide for six bytes, a feedback byte over 31;
+ *     of -101 or 200, a float that is not finite, a number too wide for six bytes; then for its open bytes: a feedback
+ *     byte over 31, an entry of a list (42) that stood there before;
  *   255 for a number too wide for a field that has no list, such as a port of 300, or a float's cell over 32 bits;
  *   8 if out is shorter than the message. */
 uint64_t castanetash_write(const uint64_t *row, size_t row_len, uint8_t way, const uint8_t *open, size_t open_len,
@@ -177,7 +187,14 @@ enum castanetash_form {
     CASTANETASH_FORM_GOTO_ABSOLUTE_POSITIONS = 36, /* 81 down, 18 bytes */
     CASTANETASH_FORM_PRESET_ENCODERS = 37,         /* 81 down, 14 bytes */
     /* Port Output Command Feedback: tells how far the commands are */
-    CASTANETASH_FORM_OUTPUT_FEEDBACK = 38 /* 82 up, 5 to 127 bytes */
+    CASTANETASH_FORM_OUTPUT_FEEDBACK = 38, /* 82 up, 5 to 127 bytes */
+    /* Port Input Format Setup (CombinedMode): the second asks a port for a list of modes and datasets */
+    CASTANETASH_FORM_COMBINED_SETUP = 39, /* 42 down, 5 bytes */
+    CASTANETASH_FORM_MODE_DATASETS = 40,  /* 42 down, 7 to 22 bytes */
+    /* Port Value (CombinedMode): the values of a port, by its list */
+    CASTANETASH_FORM_PORT_VALUE_COMBINED = 41, /* 46 up, 7 to 127 bytes */
+    /* Port Input Format (CombinedMode): answers which entries of its list a port sends */
+    CASTANETASH_FORM_INPUT_FORMAT_COMBINED = 42 /* 48 up, 7 bytes */
 };
 
 /* ---- The values of each form ----
@@ -464,9 +481,40 @@ enum castanetash_preset_encoders {
  * feedback: 1 buffer empty and command in progress, 2 buffer empty and command completed, 4 current command or commands
  * discarded, 8 idle, 16 busy or full. */
 
+/* Port Input Format Setup (CombinedMode). Sub commands: 1 sets the list, 2 locks the device for setup, 3 and 4 unlock
+ * and start it with multi update and without, 6 resets it. */
+enum castanetash_combined_setup {
+    CASTANETASH_COMBINED_SETUP_PORT = 4, /* u8 */
+    CASTANETASH_COMBINED_SETUP_SUB = 5   /* [2, 3, 4 or 6] */
+};
+
+/* 1 to 16 open bytes, the entries of the list: mode in the high half, dataset in the low. No byte stands there twice: 7
+ * at the first that stood there before. */
+enum castanetash_mode_datasets {
+    CASTANETASH_MODE_DATASETS_PORT = 4,       /* u8 */
+    CASTANETASH_MODE_DATASETS_SUB = 5,        /* [1] */
+    CASTANETASH_MODE_DATASETS_COMBINATION = 6 /* u8, the index of a combination (43) */
+};
+
+#define CASTANETASH_MOST_ENTRIES 16 /* of a list */
+
+/* Port Value (CombinedMode). 1 to 121 open bytes: a dataset for each pointer, from the lowest up. Pointer 1 is the
+ * list's first entry, 2 its second, 4 its third, and so on. */
+enum castanetash_port_value_combined {
+    CASTANETASH_PORT_VALUE_COMBINED_PORT = 4,    /* u8 */
+    CASTANETASH_PORT_VALUE_COMBINED_POINTERS = 5 /* u16, a bit an entry */
+};
+
+/* Port Input Format (CombinedMode). Control: bits 0 to 3 the index of the combination, bit 7 multi update. */
+enum castanetash_input_format_combined {
+    CASTANETASH_INPUT_FORMAT_COMBINED_PORT = 4,    /* u8 */
+    CASTANETASH_INPUT_FORMAT_COMBINED_CONTROL = 5, /* u8 */
+    CASTANETASH_INPUT_FORMAT_COMBINED_POINTERS = 6 /* u16, a bit an entry */
+};
+
 /* ---- The table ----
  *
- * What is known of a hub's ports, at most sixteen, in 464 cells (1856 bytes) that the caller lends to every call and
+ * What is known of a hub's ports, at most sixteen, in 1008 cells (4032 bytes) that the caller lends to every call and
  * need not look into. A port is present from its attachment (04) to its detachment. The hub tells the format of a
  * mode's values (44, information 128). A client asks a port for a mode (41), and the hub answers the mode that the port
  * is in (47): from then on, and not before, its values (45) are in that mode. All of it is forgotten with the port. A
@@ -474,24 +522,34 @@ enum castanetash_preset_encoders {
  * present any more. Commands for motors (81) and their feedback (82) change nothing, and are judged by the ports that
  * they name.
  *
+ * A client may ask a port for a list of modes and datasets too (42, sub command 1). The port keeps the latest list. The
+ * hub's 48 answers which entries of it the port sends, and takes the list over as it then stands: from then on the port
+ * is combined, and its values (46) are read by that list, even if the client asks for another. A 47 makes it single
+ * again, and leaves the list that it keeps. The other sub commands change nothing.
+ *
  * A table may be copied and stored. Before anything else each call tests that the cells are a sound table: no port
- * twice, virtual ports and members that fit each other, every number in its list, free places zeros; else 9.
- * castanetash_empty asks for their number alone.
+ * twice, virtual ports and members that fit each other, every number in its list, free places zeros; a list has 1 to 16
+ * different bytes, and zeros after them; an asking by list is the kept list; a combined port has a kept list, and
+ * pointers, not 0, within the list taken over, which is the kept one in states 2 and 3; a port that is not combined has
+ * taken over none; without an asking there is no list and the number of the experiment is 0; the state fits its rule.
+ * Else 9. castanetash_empty asks for their number alone.
  */
-#define CASTANETASH_TABLE_CELLS 464
+#define CASTANETASH_TABLE_CELLS 1008
 #define CASTANETASH_MOST_PORTS 16
 
 /* Makes a table an empty one, whatever its cells held, and returns 0. Refused: 9 for another number of cells. */
 uint64_t castanetash_empty(uint32_t *table, size_t table_len);
 
 /* Offers a message to a table, with the number of the experiment that it belongs to. Accepted: changes the table as the
- * message says, and returns 0. A port keeps the experiment number of its latest 41; that of any other message leaves no
- * trace.
+ * message says, and returns 0. A port keeps the experiment number of its latest asking, a 41 or a list (42, sub command
+ * 1); that of any other message leaves no trace.
  *
  * Refused: 9; 1 to 7 as in reading; then
  *   an attachment 11, 12 (a virtual port's), 13;
- *   a detachment, a 21, 22, 41, 43, 44 or 47: 10;
+ *   a detachment, a 21, 22, 41, 42, 43, 44 or 47: 10;
  *   a 45: 10, 14, 15, 16;
+ *   a 46: 10, 20, 21, 15, 17, 16; each of 15 and 17 for any entry pointed at, 15 for all of them before any 17;
+ *   a 48: 10, 21;
  *   a 61 that connects 12, one that disconnects 10, 12;
  *   an 81: 10, then 22 unless it is GOTO_ABSOLUTE_POSITION or the port is virtual; a member of a virtual port is not;
  *   an 82: 10 if any of its ports isn't present. */
@@ -500,12 +558,14 @@ uint64_t castanetash_offer(uint32_t *table, size_t table_len, const uint8_t *mes
 
 /* ---- Values ---- */
 
-/* How a port's latest 47 stands to its latest 41. */
+/* How a port's latest answer, a 47 or a 48, stands to its latest asking, a 41 or a list (42, sub command 1). */
 enum castanetash_state {
-    CASTANETASH_STATE_NOTHING_ASKED = 0, /* there was no 41 */
-    CASTANETASH_STATE_UNANSWERED = 1,    /* there was no 47 since the latest 41: values are still in the old mode */
-    CASTANETASH_STATE_AS_ASKED = 2,      /* the latest 47 came after it, with equal mode, delta and notify */
-    CASTANETASH_STATE_OTHERWISE = 3      /* the latest 47 came after it, and differs */
+    CASTANETASH_STATE_NOTHING_ASKED = 0, /* there was no asking */
+    CASTANETASH_STATE_UNANSWERED = 1,    /* there was no answer since the latest asking: values are still as before */
+    CASTANETASH_STATE_AS_ASKED = 2,      /* the latest answer came after it: a 47 to a 41, with equal mode, delta and
+                                            notify; or a 48 to a list, whose pointers are all of the list's */
+    CASTANETASH_STATE_OTHERWISE = 3      /* the latest answer came after it, and differs: so do a 47 to a list and a 48
+                                            to a 41 */
 };
 
 /* A dataset as a row of 6 numbers. */
@@ -516,7 +576,8 @@ enum castanetash_dataset_cell {
     CASTANETASH_DATASET_CELL_KIND = 0,  /* one of enum castanetash_dataset_kind */
     CASTANETASH_DATASET_CELL_VALUE = 1, /* a whole number as int64_t, in two's complement; a float as its 32 bits */
     CASTANETASH_DATASET_CELL_PORT = 2,
-    CASTANETASH_DATASET_CELL_MODE = 3,      /* the mode that the hub last answered, and that the value is read by */
+    CASTANETASH_DATASET_CELL_MODE = 3,      /* the mode that the hub last answered, and that the value is read by; of a
+                                               46 that of its entry */
     CASTANETASH_DATASET_CELL_STATE = 4,     /* one of enum castanetash_state */
     CASTANETASH_DATASET_CELL_EXPERIMENT = 5 /* of the experiment that asked for it; 0 unless the state is 2 */
 };
@@ -526,16 +587,17 @@ enum castanetash_dataset_kind {
     CASTANETASH_DATASET_KIND_FLOAT = 1
 };
 
-/* Reads all datasets of a 45, 1 to 16. Accepted: fills 6 cells of rows for each, in their order, and returns how many
- * datasets they are. The message is judged as castanetash_offer would, and changes nothing. A 45 changes no table, so
- * it need not be offered: read a message's values first, and offer it if that is refused as 17.
+/* Reads all datasets of a 45 or a 46, 1 to 16. A 46 has one for each pointer, from the lowest up. Accepted: fills 6
+ * cells of rows for each, in their order, and returns how many datasets they are. The message is judged as
+ * castanetash_offer would, and changes nothing. Neither a 45 nor a 46 changes a table, so it need not be offered: read
+ * a message's values first, and offer it if that is refused as 17.
  *
- * Refused: 9; 1 to 7 as in reading; 10 to 16 and 22 as in castanetash_offer; 17 if the message is accepted, but is no
- * 45; 18 if any dataset is an infinity or a NaN; 255 if rows has fewer cells than 6 times the datasets. */
+ * Refused: 9; 1 to 7 as in reading; 10 to 17 and 20 to 22 as in castanetash_offer; 17 if the message is accepted, but
+ * is no 45 or 46; 18 if any dataset is an infinity or a NaN; 255 if rows has fewer cells than 6 times the datasets. */
 uint64_t castanetash_values(const uint32_t *table, size_t table_len, const uint8_t *message, size_t message_len,
                             uint8_t way, uint64_t *rows, size_t rows_len);
 
-/* Reads one dataset of a 45, numbered from 0. Accepted: fills the first 6 cells of the row, and returns 6.
+/* Reads one dataset of a 45 or a 46, numbered from 0. Accepted: fills the first 6 cells of the row, and returns 6.
  *
  * Refused: as castanetash_values, but 17 also if there is no dataset of that number, 18 for that dataset alone, and 255
  * if the row has fewer than 6 cells. */
@@ -549,8 +611,8 @@ uint64_t castanetash_dataset(const uint32_t *table, size_t table_len, const uint
  * Refused: 9; 255 if there are more of them than bytes. */
 uint64_t castanetash_ports(const uint32_t *table, size_t table_len, uint8_t *ports, size_t ports_len);
 
-/* A port as a row of 14 numbers. What isn't known is 0. */
-#define CASTANETASH_PORT_CELLS 14
+/* A port as a row of 49 numbers. What isn't known is 0. */
+#define CASTANETASH_PORT_CELLS 49
 
 enum castanetash_port_cell {
     CASTANETASH_PORT_CELL_WIRING = 0, /* one of enum castanetash_wiring */
@@ -558,15 +620,21 @@ enum castanetash_port_cell {
     CASTANETASH_PORT_CELL_PARTNER = 2, /* a joined port's virtual port; a virtual port's first member, as sent */
     CASTANETASH_PORT_CELL_SECOND = 3,  /* a virtual port's second member, as sent */
     CASTANETASH_PORT_CELL_STATE = 4,   /* one of enum castanetash_state */
-    CASTANETASH_PORT_CELL_ASKED = 5,   /* 1 if there was a 41; of the latest: */
+    CASTANETASH_PORT_CELL_ASKED = 5,   /* the latest asking: 1 a 41, 2 a list (42, sub command 1); of a 41: */
     CASTANETASH_PORT_CELL_ASKED_MODE = 6,
     CASTANETASH_PORT_CELL_ASKED_DELTA = 7,
     CASTANETASH_PORT_CELL_ASKED_NOTIFY = 8,
-    CASTANETASH_PORT_CELL_ANSWERED = 9, /* 1 if there was a 47; of the latest: */
+    CASTANETASH_PORT_CELL_ANSWERED = 9, /* the latest answer: 1 a 47, 2 a 48, so the port is combined; of a 47: */
     CASTANETASH_PORT_CELL_ANSWERED_MODE = 10,
     CASTANETASH_PORT_CELL_ANSWERED_DELTA = 11,
     CASTANETASH_PORT_CELL_ANSWERED_NOTIFY = 12,
-    CASTANETASH_PORT_CELL_EXPERIMENT = 13 /* that of the latest 41 */
+    CASTANETASH_PORT_CELL_EXPERIMENT = 13,   /* that of the latest asking */
+    CASTANETASH_PORT_CELL_POINTERS = 14,     /* of the latest 48, if the port is combined */
+    CASTANETASH_PORT_CELL_LIST = 15,         /* how many entries the latest list has */
+    CASTANETASH_PORT_CELL_LIST_ENTRIES = 16, /* the first of sixteen, zeros after them */
+    CASTANETASH_PORT_CELL_TAKEN = 32,        /* how many entries the list has that the latest 48 took over, by which a
+                                                46 is read; 0 unless the port is combined */
+    CASTANETASH_PORT_CELL_TAKEN_ENTRIES = 33 /* the first of sixteen, zeros after them */
 };
 
 enum castanetash_wiring {
@@ -576,9 +644,9 @@ enum castanetash_wiring {
     CASTANETASH_WIRING_VIRTUAL = 3
 };
 
-/* What is known of a port. Accepted: fills the first 14 cells of the row, and returns 14. An absent port has zeros.
+/* What is known of a port. Accepted: fills the first 49 cells of the row, and returns 49. An absent port has zeros.
  *
- * Refused: 9; 255 if the row has fewer than 14 cells. */
+ * Refused: 9; 255 if the row has fewer than 49 cells. */
 uint64_t castanetash_port(const uint32_t *table, size_t table_len, uint8_t port, uint64_t *row, size_t row_len);
 
 /* The format of a mode's values as a row of 5 numbers. What isn't known is 0. */
@@ -612,13 +680,15 @@ uint64_t castanetash_format(const uint32_t *table, size_t table_len, uint8_t por
  * A log is records of 136 bytes: 0 to 3 a time, which is not used; 4 the way, 0 down, 1 up; 5 zero; 6 and 7 the
  * experiment number, the lowest byte first; 8 to 135 the message, then zeros. A record's line is its number, from 1,
  * and its refusal, 0 if it is accepted; for an accepted 45 it goes on with port, mode, state, experiment number and
- * datasets, floats as their 32 bits. All are decimal, with a space between them:
+ * datasets, floats as their 32 bits; for an accepted 46 with port, state, experiment number, pointers and datasets. All
+ * are decimal, with a space between them:
  *
  *   102 0 0 1 2 301 602
  *   103 10
+ *   104 0 0 2 9 3 -128 -2
  *
  * 19 comes before all other refusals: the way is over 1, or byte 5 or a byte after the message is not 0. 18 comes last:
- * any dataset of a 45 is an infinity or a NaN.
+ * any dataset of a 45 or 46 is an infinity or a NaN.
  */
 #define CASTANETASH_RECORD 136
 
@@ -647,15 +717,19 @@ uint64_t castanetash_read_block(uint32_t *table, size_t table_len, uint64_t *tot
 
 /* ---- The cells of a table ----
  *
- * Sixteen records of 29. A new record takes the lowest free place, and a free place is zeros.
+ * Sixteen records of 63. A new record takes the lowest free place, and a free place is zeros.
  *   0      0 free, else one of enum castanetash_wiring
  *   1, 2   port, device
  *   3, 4   partner and second member, as castanetash_port gives them
  *   5      state
- *   6..8   the latest 41: mode + 1, delta, notify; zeros if there was none
- *   9      the experiment number of the latest 41; 0 if there was none
- *   10..12 the latest 47: mode + 1, delta, notify; zeros if there was none
+ *   6..8   the latest asking: of a 41 mode + 1, delta, notify; of a list 17, 0, 0; zeros if there was none
+ *   9      the experiment number of the latest asking; 0 if there was none
+ *   10..12 the latest answer: of a 47 mode + 1, delta, notify; of a 48 17, pointers, 0; zeros if there was none
  *   13..28 the formats of modes 0 to 15: datasets + 2^8 * kind + 2^16 * figures + 2^24 * decimals, 0 if not known
+ *   29     how many entries the latest list has, 0 if there was none
+ *   30..45 its entries, zeros after them
+ *   46     how many entries the list has that the latest 48 took over, 0 unless the port is combined
+ *   47..62 its entries, zeros after them
  */
 
 #ifdef __cplusplus

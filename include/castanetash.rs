@@ -19,14 +19,15 @@ pub const LONGEST: usize = 127;
 
 /// How many cells a message's row, a table, and the rows of its answers have.
 pub const ROW_CELLS: usize = 16;
-pub const TABLE_CELLS: usize = 464;
+pub const TABLE_CELLS: usize = 1008;
 pub const DATASET_CELLS: usize = 6;
-pub const PORT_CELLS: usize = 14;
+pub const PORT_CELLS: usize = 49;
 pub const FORMAT_CELLS: usize = 5;
 pub const TOTALS_CELLS: usize = 2;
 
-/// The most datasets of a value, and the most ports of a table.
+/// The most datasets of a value, the most entries of a list, and the most ports of a table.
 pub const MOST_DATASETS: usize = 16;
+pub const MOST_ENTRIES: usize = 16;
 pub const MOST_PORTS: usize = 16;
 
 /// The bytes of a log's record, and the room that a record's line may want.
@@ -72,7 +73,7 @@ pub fn write(row: &[u64], way: u8, open: &[u8], out: &mut [u8]) -> Result<usize,
     answer(unsafe { raw::castanetash_write(row, row_len, way, open.as_ptr(), open.len(), out, out_len) })
 }
 
-/// Makes 464 cells an empty table: 0.
+/// Makes 1008 cells an empty table: 0.
 pub fn empty(table: &mut [u32]) -> Result<usize, Refused> {
     answer(unsafe { raw::castanetash_empty(table.as_mut_ptr(), table.len()) })
 }
@@ -104,7 +105,7 @@ pub fn ports(table: &[u32], ports: &mut [u8]) -> Result<usize, Refused> {
     answer(unsafe { raw::castanetash_ports(table.as_ptr(), table.len(), ports.as_mut_ptr(), ports.len()) })
 }
 
-/// What a table knows of a port, in the first 14 cells of a row: 14.
+/// What a table knows of a port, in the first 49 cells of a row: 49.
 pub fn port(table: &[u32], port: u8, row: &mut [u64]) -> Result<usize, Refused> {
     answer(unsafe { raw::castanetash_port(table.as_ptr(), table.len(), port, row.as_mut_ptr(), row.len()) })
 }
@@ -155,18 +156,26 @@ pub mod refused {
     pub const PAIR: u32 = 12;
     /// Sixteen ports are present already.
     pub const TABLE_FULL: u32 = 13;
-    /// A value of a port that has no mode yet: no 47 since it was attached.
+    /// A 45 of a port that has no mode: no 47 since it was attached, or a 48 since its latest 47.
     pub const NO_MODE: u32 = 14;
-    /// A value in a mode that has no format yet: no such 44 since then.
+    /// A value in a mode that has no format yet: no such 44 since the port was attached; of a 46 any mode of the
+    /// entries pointed at.
     pub const NO_FORMAT: u32 = 15;
-    /// A value whose bytes are not datasets times width of its format.
+    /// A value whose bytes are not datasets times width of its format; of a 46 not the widths of the entries pointed at
+    /// together.
     pub const VALUE_SIZE: u32 = 16;
-    /// No dataset of that number; any message but a value has none.
+    /// No dataset of that number; any message but a 45 or 46 has none; or a 46 points at an entry whose dataset its
+    /// mode's format has not.
     pub const NO_DATASET: u32 = 17;
-    /// A float dataset is an infinity or a NaN.
+    /// A float dataset, of a 45 or 46, is an infinity or a NaN.
     pub const NOT_FINITE: u32 = 18;
     /// A log's record is malformed: only in the text of `read_block`.
     pub const LOG_RECORD: u32 = 19;
+    /// A 46 of a port that is not combined: no 48 since it was attached, or a 47 since its latest 48.
+    pub const NOT_COMBINED: u32 = 20;
+    /// A 48 of a port that has no list, or with a pointer past the list; a 46 with a pointer that the latest 48 has
+    /// not; either without a pointer.
+    pub const POINTERS: u32 = 21;
     /// A command for two motors to a port that is not virtual.
     pub const NOT_VIRTUAL: u32 = 22;
     /// `write` is given a form that is read only.
@@ -179,7 +188,7 @@ pub mod refused {
 pub mod row {
     /// One of `form`.
     pub const FORM: usize = 0;
-    /// Where the open bytes (a name, symbol, text or value, or pairs of port and feedback) start in the message.
+    /// Where the open bytes (a name, symbol, text or value, pairs of port and feedback, or a list) start in the message.
     pub const OPEN_START: usize = 1;
     /// How many they are, 0 for most forms.
     pub const OPEN_COUNT: usize = 2;
@@ -297,6 +306,20 @@ pub mod form {
     // Port Output Command Feedback: tells how far the commands are
     /// 82 up, 5 to 127 bytes: 2 to 124 open bytes, pairs of a port and its feedback, 0 to 31, and no values.
     pub const OUTPUT_FEEDBACK: u64 = 38;
+
+    // Port Input Format Setup (CombinedMode): the second asks a port for a list of modes and datasets
+    /// 42 down, 5 bytes.
+    pub const COMBINED_SETUP: u64 = 39;
+    /// 42 down, 7 to 22 bytes.
+    pub const MODE_DATASETS: u64 = 40;
+
+    // Port Value (CombinedMode): the values of a port, by its list
+    /// 46 up, 7 to 127 bytes.
+    pub const PORT_VALUE_COMBINED: u64 = 41;
+
+    // Port Input Format (CombinedMode): answers which entries of its list a port sends
+    /// 48 up, 7 bytes.
+    pub const INPUT_FORMAT_COMBINED: u64 = 42;
 }
 
 // The values of each form: where they stand in a row, and what may stand there, a list or any number of a width. i8 and
@@ -666,15 +689,51 @@ pub mod preset_encoders {
     pub const RIGHT_POSITION: usize = 8;
 }
 
-/// How a port's latest 47 stands to its latest 41.
+/// A sub command that leaves the list alone.
+pub mod combined_setup {
+    /// u8.
+    pub const PORT: usize = 4;
+    /// Selector: 2 lock the device for setup, 3 or 4 unlock and start it, with multi update or without, 6 reset it.
+    pub const SUB: usize = 5;
+}
+
+/// The list is open bytes, 1 to 16: in each the mode in the high half and the dataset in the low, and no byte twice.
+pub mod mode_datasets {
+    /// u8.
+    pub const PORT: usize = 4;
+    /// Selector: 1.
+    pub const SUB: usize = 5;
+    /// u8, the index of a combination.
+    pub const COMBINATION: usize = 6;
+}
+
+/// The values are open bytes, 1 to 121: a dataset for each pointer, from the lowest up.
+pub mod port_value_combined {
+    /// u8.
+    pub const PORT: usize = 4;
+    /// u16, a bit an entry: 1 the list's first, 2 its second, 4 its third, and so on.
+    pub const POINTERS: usize = 5;
+}
+
+pub mod input_format_combined {
+    /// u8.
+    pub const PORT: usize = 4;
+    /// u8: bits 0 to 3 the index of the combination, bit 7 multi update.
+    pub const CONTROL: usize = 5;
+    /// u16, a bit an entry.
+    pub const POINTERS: usize = 6;
+}
+
+/// How a port's latest answer, a 47 or a 48, stands to its latest asking, a 41 or a list (42, sub command 1).
 pub mod state {
-    /// There was no 41.
+    /// There was no asking.
     pub const NOTHING_ASKED: u64 = 0;
-    /// There was no 47 since the latest 41: values are still in the old mode.
+    /// There was no answer since the latest asking: values are still as before.
     pub const UNANSWERED: u64 = 1;
-    /// The latest 47 came after it, with equal mode, delta and notify.
+    /// The latest answer came after it: a 47 to a 41, with equal mode, delta and notify; or a 48 to a list, whose
+    /// pointers are all of the list's.
     pub const AS_ASKED: u64 = 2;
-    /// The latest 47 came after it, and differs.
+    /// The latest answer came after it, and differs: so do a 47 to a list and a 48 to a 41.
     pub const OTHERWISE: u64 = 3;
 }
 
@@ -685,7 +744,7 @@ pub mod dataset_cell {
     /// A whole number in two's complement: `as i64`; a float as its 32 bits: `f32::from_bits`.
     pub const VALUE: usize = 1;
     pub const PORT: usize = 2;
-    /// The mode that the hub last answered, and that the value is read by.
+    /// The mode that the hub last answered, and that the value is read by; of a 46 that of its entry.
     pub const MODE: usize = 3;
     /// One of `state`.
     pub const STATE: usize = 4;
@@ -710,18 +769,28 @@ pub mod port_cell {
     pub const SECOND: usize = 3;
     /// One of `state`.
     pub const STATE: usize = 4;
-    /// 1 if there was a 41; of the latest follow.
+    /// The latest asking: 1 a 41, whose mode, delta and notify follow, 2 a list (42, sub command 1).
     pub const ASKED: usize = 5;
     pub const ASKED_MODE: usize = 6;
     pub const ASKED_DELTA: usize = 7;
     pub const ASKED_NOTIFY: usize = 8;
-    /// 1 if there was a 47; of the latest follow.
+    /// The latest answer: 1 a 47, whose mode, delta and notify follow, 2 a 48, so the port is combined.
     pub const ANSWERED: usize = 9;
     pub const ANSWERED_MODE: usize = 10;
     pub const ANSWERED_DELTA: usize = 11;
     pub const ANSWERED_NOTIFY: usize = 12;
-    /// That of the latest 41.
+    /// That of the latest asking.
     pub const EXPERIMENT: usize = 13;
+    /// Of the latest 48, if the port is combined.
+    pub const POINTERS: usize = 14;
+    /// How many entries the latest list has.
+    pub const LIST: usize = 15;
+    /// The first of sixteen, zeros after them.
+    pub const LIST_ENTRIES: usize = 16;
+    /// How many entries the list has that the latest 48 took over, by which a 46 is read; 0 unless the port is combined.
+    pub const TAKEN: usize = 32;
+    /// The first of sixteen, zeros after them.
+    pub const TAKEN_ENTRIES: usize = 33;
 }
 
 /// What a port is.

@@ -2,6 +2,7 @@
 //! reading, in writing and in port tables, the product's log reader, whole numbers with their sign, and random messages.
 
 mod answer;
+pub mod by_hand;
 #[allow(missing_docs, unsafe_code)]
 #[rustfmt::skip]
 #[path = "../../../include/castanetash.rs"]

@@ -15,7 +15,9 @@ use std::process::{Command, Output};
 
 use castanetash::Refused;
 use differential::{printed, root, wanted};
-use yardstick::{decode, log_record, write_row, Form, Port, Refusal, Setup, State, Table, Way, Wiring};
+use yardstick::{
+    decode, log_record, write_row, Answered, Asked, Form, List, Port, Refusal, Setup, State, Table, Way, Wiring,
+};
 use yardstick::{LOG_RECORD, PLACES, TABLE_CELLS};
 
 /// The folder of the product's library.
@@ -52,6 +54,14 @@ port 0: feedback 8
 port 1: feedback 8
 written: 12 00 81 00 11 0E 5A 00 00 00 A6 FF FF FF 32 64 7E 03
 refusal 22, place 0
+";
+const COMBINED_VALUES: &str = "\
+written: 09 00 42 02 01 00 00 60 62
+port 2, mode 0, state 2, experiment 301: 3
+port 2, mode 6, state 2, experiment 301: 50
+port 2, mode 6, state 2, experiment 301: 205
+port 2, mode 6, state 2, experiment 301: 210
+refusal 21, place 0
 ";
 
 #[derive(Clone, Copy, Debug)]
@@ -132,6 +142,7 @@ fn examples_print_what_they_should() {
             ("write_and_read", WRITE_AND_READ),
             ("port_table", PORT_TABLE),
             ("drive_virtual", DRIVE_VIRTUAL),
+            ("combined_values", COMBINED_VALUES),
         ] {
             let program = build(name, language, "printed");
             assert_eq!(accepted(&mut Command::new(program)), wanted, "{name} in {language:?}");
@@ -718,6 +729,30 @@ const SAMPLES: [Sample; Form::COUNT] = [
         ],
     ),
     (Form::OutputFeedback, Way::Up, b"\x07\x00\x82\x09\x0A\x00\x1F", &[]),
+    (
+        Form::CombinedSetup,
+        Way::Down,
+        b"\x05\x00\x42\x09\x06",
+        &[("PORT", 9), ("SUB", 6)],
+    ),
+    (
+        Form::ModeDatasets,
+        Way::Down,
+        b"\x08\x00\x42\x09\x01\x05\x40\x51",
+        &[("PORT", 9), ("SUB", 1), ("COMBINATION", 5)],
+    ),
+    (
+        Form::PortValueCombined,
+        Way::Up,
+        b"\x09\x00\x46\x09\x03\x01\x80\xFE\xFF",
+        &[("PORT", 9), ("POINTERS", 0x0103)],
+    ),
+    (
+        Form::InputFormatCombined,
+        Way::Up,
+        b"\x07\x00\x48\x09\x80\x03\x01",
+        &[("PORT", 9), ("CONTROL", 0x80), ("POINTERS", 0x0103)],
+    ),
 ];
 
 /// The name of a form in the header: `HUB_ACTION` for `HubAction`.
@@ -795,7 +830,9 @@ fn ways_of(form: Form, message: &[u8]) -> &'static str {
 fn sizes_of(form: Form, message: &[u8]) -> String {
     let is_size = |&size: &u8| {
         let mut message = message.to_vec();
-        message.resize(size.into(), 0);
+        message.truncate(size.into());
+        // Each is feedback too, and no entry of a list is there twice.
+        message.extend((message.len() as u8..size).map(|place| place % 32));
         message[0] = size;
         Way::BOTH
             .iter()
@@ -870,6 +907,8 @@ fn refusals_are_those_of_the_second_program() {
         ("NO_DATASET", Refusal::NO_DATASET.number),
         ("NOT_FINITE", Refusal::NOT_FINITE.number),
         ("LOG_RECORD", Refusal::LOG_RECORD.number),
+        ("NOT_COMBINED", Refusal::NOT_COMBINED.number),
+        ("POINTERS", Refusal::POINTERS.number),
         ("NOT_VIRTUAL", Refusal::NOT_VIRTUAL.number),
         ("READ_ONLY", Refusal::READ_ONLY.number),
         ("ROW", 255),
@@ -897,15 +936,22 @@ fn sizes_are_those_of_the_second_program() {
     ] {
         assert_eq!(numbers[name], number as u64, "{name}");
     }
+    let places = |name| enum_of(name).into_iter().map(|(_, place, _)| place);
     for (cells, name) in [
         ("DATASET_CELLS", "dataset_cell"),
-        ("PORT_CELLS", "port_cell"),
         ("FORMAT_CELLS", "format_cell"),
         ("TOTALS_CELLS", "totals"),
     ] {
-        let places: Vec<u64> = enum_of(name).into_iter().map(|(_, place, _)| place).collect();
-        assert!(places.into_iter().eq(0..numbers[cells]), "{cells}");
+        assert!(places(name).eq(0..numbers[cells]), "{cells}");
     }
+    // The sixteen entries of each list have one name.
+    let entries = numbers["MOST_ENTRIES"];
+    let [list, taken] = ["LIST", "TAKEN"].map(|name| numbers[&format!("PORT_CELL_{name}")]);
+    assert!(places("port_cell").eq((0..=list + 1).chain([taken, taken + 1])));
+    assert_eq!(
+        [list + 1 + entries, taken + 1 + entries],
+        [taken, numbers["PORT_CELLS"]]
+    );
     let longest = |length: u64| {
         let mut message = vec![0; length as usize];
         message[..4].copy_from_slice(&[length as u8, 0, 0x45, 9]);
@@ -914,6 +960,12 @@ fn sizes_are_those_of_the_second_program() {
     assert!(longest(numbers["LONGEST"]) && !longest(numbers["LONGEST"] + 1));
     let most = |datasets: u64| decode(Way::Up, &[10, 0, 0x44, 9, 3, 0x80, datasets as u8, 1, 5, 4]).is_ok();
     assert!(most(numbers["MOST_DATASETS"]) && !most(numbers["MOST_DATASETS"] + 1));
+    let most = |entries: u64| {
+        let mut message = vec![6 + entries as u8, 0, 0x42, 9, 1, 0];
+        message.extend((0..entries).map(|entry| entry as u8));
+        decode(Way::Down, &message).is_ok()
+    };
+    assert!(most(entries) && !most(entries + 1));
 }
 
 /// Each function for Rust hands its arguments on, and gives the library's answer.
@@ -1012,14 +1064,43 @@ fn functions_for_rust_call_the_library() {
     assert_eq!(castanetash::values(&table, value, 1, &mut rows[..11]), refused(255, 0));
     assert_eq!(castanetash::values(&table, no_value, 1, &mut rows), refused(6, 5));
 
+    // Port 9 is combined for a while: the list is mode 3's second dataset alone.
+    let list = b"\x07\x00\x42\x09\x01\x05\x31";
+    let combined = b"\x07\x00\x48\x09\x00\x01\x00";
+    let combined_value = b"\x08\x00\x46\x09\x01\x00\xFE\xFF";
+    let mut cells = [7; 17];
+    assert_eq!(castanetash::read(list, 0, &mut cells), Ok(castanetash::ROW_CELLS));
+    assert_eq!(cells, [40, 6, 1, 3, 9, 1, 5, 0, 0, 0, 0, 0, 0, 0, 0, 0, 7]);
+    assert_eq!(castanetash::write(&cells, 0, &[0x31], &mut out), Ok(7));
+    assert_eq!(out[..7], *list);
+    assert_eq!(castanetash::write(&cells, 0, &[0x31, 0x31], &mut out), refused(7, 7));
+    assert_eq!(castanetash::write(&cells, 0, &[], &mut out), refused(6, 7));
+    let mut changed = table;
+    assert_eq!(castanetash::offer(&mut changed, combined, 1, 0), refused(21, 0));
+    assert_eq!(castanetash::offer(&mut changed, combined_value, 1, 0), refused(20, 0));
+    assert_eq!(castanetash::offer(&mut changed, list, 0, 302), Ok(0));
+    assert_eq!(castanetash::offer(&mut changed, combined, 1, 0), Ok(0));
+    assert_eq!(castanetash::dataset(&changed, combined_value, 1, 0, &mut row), Ok(6));
+    assert_eq!(row, [0, minus_two, 9, 3, 2, 302, 70]);
+    assert_eq!(castanetash::values(&changed, combined_value, 1, &mut rows), Ok(1));
+    assert_eq!(rows[..6], [0, minus_two, 9, 3, 2, 302]);
+    assert_eq!(castanetash::values(&changed, value, 1, &mut rows), refused(14, 0));
+    let mut cells = [70; 50];
+    assert_eq!(castanetash::port(&changed, 9, &mut cells), Ok(49));
+    assert_eq!(cells[..14], [1, 38, 0, 0, 2, 2, 0, 0, 0, 2, 0, 0, 0, 302]);
+    assert_eq!(cells[14..18], [1, 1, 0x31, 0]);
+    assert_eq!(cells[32..35], [1, 0x31, 0]);
+    assert_eq!(cells[49], 70);
+
     let mut ports = [70; 2];
     assert_eq!(castanetash::ports(&table, &mut ports), Ok(1));
     assert_eq!(ports, [9, 70]);
     assert_eq!(castanetash::ports(&table, &mut []), refused(255, 0));
-    let mut row = [70; 15];
-    assert_eq!(castanetash::port(&table, 9, &mut row), Ok(14));
-    assert_eq!(row, [1, 38, 0, 0, 2, 1, 3, 5, 1, 1, 3, 5, 1, 301, 70]);
-    assert_eq!(castanetash::port(&table, 9, &mut row[..13]), refused(255, 0));
+    let mut row = [70; 50];
+    assert_eq!(castanetash::port(&table, 9, &mut row), Ok(49));
+    assert_eq!(row[..14], [1, 38, 0, 0, 2, 1, 3, 5, 1, 1, 3, 5, 1, 301]);
+    assert_eq!(row[14..], [[0; 35].as_slice(), &[70]].concat());
+    assert_eq!(castanetash::port(&table, 9, &mut row[..48]), refused(255, 0));
     let mut row = [70; 6];
     assert_eq!(castanetash::format(&table, 9, 3, &mut row), Ok(5));
     assert_eq!(row, [1, 2, 1, 5, 4, 70]);
@@ -1048,11 +1129,11 @@ fn functions_for_rust_call_the_library() {
 }
 
 /// What the library answers of ports stands where the names say, by the second program's own answers: of a virtual port
-/// that was answered otherwise, of its members, one of them asked and not answered, of a port with nothing, and of an
-/// absent one.
+/// that was answered otherwise, of its members, one of them asked and not answered, of a port with nothing, of one that
+/// is combined and was asked for another list, and of an absent one.
 #[test]
 fn cells_of_a_port_are_named_for_what_they_hold() {
-    let entries: [(Way, &[u8], u16); 6] = [
+    let entries: [(Way, &[u8], u16); 10] = [
         (
             Way::Up,
             b"\x0F\x00\x04\x05\x01\x26\x00\x00\x00\x00\x10\x00\x00\x00\x10",
@@ -1067,6 +1148,14 @@ fn cells_of_a_port_are_named_for_what_they_hold() {
         (Way::Down, b"\x0A\x00\x41\x05\x02\x07\x00\x00\x00\x00", 301),
         (Way::Down, b"\x0A\x00\x41\x09\x03\x0A\x00\x00\x00\x01", 302),
         (Way::Up, b"\x0A\x00\x47\x09\x04\x0B\x00\x00\x00\x00", 0),
+        (
+            Way::Up,
+            b"\x0F\x00\x04\x0A\x01\x25\x00\x00\x00\x00\x10\x00\x00\x00\x10",
+            0,
+        ),
+        (Way::Down, b"\x09\x00\x42\x0A\x01\x00\x10\x21\x32", 303),
+        (Way::Up, b"\x07\x00\x48\x0A\x00\x05\x00", 0),
+        (Way::Down, b"\x08\x00\x42\x0A\x01\x00\x43\x54", 304),
     ];
     let attached = b"\x0F\x00\x04\x07\x01\x29\x00\x00\x00\x00\x10\x00\x00\x00\x10";
     let mut second = Table::default();
@@ -1074,17 +1163,37 @@ fn cells_of_a_port_are_named_for_what_they_hold() {
         assert_eq!(second.offer(way, message, experiment), Ok(()));
     }
     let table = second.to_cells();
-    for port in [5, 6, 7, 8, 9] {
+    for port in [5, 6, 7, 8, 9, 10] {
         let mut row = [70; castanetash::PORT_CELLS];
         assert_eq!(castanetash::port(&table, port, &mut row), Ok(castanetash::PORT_CELLS));
         let wanted = named_cells(second.port(port));
         let cells = wanted.map(|(name, place, _)| (name, place, row[place]));
         assert_eq!(cells, wanted, "port {port}");
+        use castanetash::{port_cell, MOST_ENTRIES};
+        let [list, taken] = lists(second.port(port)).map(|list| {
+            let mut entries = [0; MOST_ENTRIES];
+            for (cell, &entry) in entries.iter_mut().zip(list.iter().flat_map(List::entries)) {
+                *cell = entry.into();
+            }
+            entries
+        });
+        assert_eq!(row[port_cell::LIST_ENTRIES..][..MOST_ENTRIES], list, "port {port}");
+        assert_eq!(row[port_cell::TAKEN_ENTRIES..][..MOST_ENTRIES], taken, "port {port}");
     }
 }
 
-/// The cells of a port: their names, their places by these names, and what has to stand there.
-fn named_cells(port: Option<Port>) -> [(&'static str, usize, u64); castanetash::PORT_CELLS] {
+/// The list that a port keeps, and the one that its 48 took over.
+fn lists(port: Option<Port>) -> [Option<List>; 2] {
+    let taken = match port.and_then(|it| it.answered) {
+        Some(Answered::Combined { list, .. }) => Some(list),
+        _ => None,
+    };
+    [port.and_then(|it| it.list), taken]
+}
+
+/// The cells of a port but for the entries of its lists: their names, their places by these names, and what has to stand
+/// there.
+fn named_cells(port: Option<Port>) -> [(&'static str, usize, u64); 17] {
     use castanetash::{port_cell, state, wiring};
     let (kind, partner, second) = match port.map(|it| it.wiring) {
         None => (wiring::ABSENT, 0, 0),
@@ -1098,12 +1207,23 @@ fn named_cells(port: Option<Port>) -> [(&'static str, usize, u64); castanetash::
         Some(State::AsAsked) => state::AS_ASKED,
         Some(State::Otherwise) => state::OTHERWISE,
     };
-    let setup = |setup: Option<Setup>| match setup {
+    let single = |setup: Setup| [1, setup.mode.into(), setup.delta.into(), setup.notify.into()];
+    let [asked, asked_mode, asked_delta, asked_notify] = match port.and_then(|it| it.asked) {
         None => [0; 4],
-        Some(setup) => [1, setup.mode.into(), setup.delta.into(), setup.notify.into()],
+        Some(Asked::Single(setup)) => single(setup),
+        Some(Asked::List) => [2, 0, 0, 0],
     };
-    let [asked, asked_mode, asked_delta, asked_notify] = setup(port.and_then(|it| it.asked));
-    let [answered, answered_mode, answered_delta, answered_notify] = setup(port.and_then(|it| it.answered));
+    let answer = port.and_then(|it| it.answered);
+    let [answered, answered_mode, answered_delta, answered_notify] = match answer {
+        None => [0; 4],
+        Some(Answered::Single(setup)) => single(setup),
+        Some(Answered::Combined { .. }) => [2, 0, 0, 0],
+    };
+    let pointers = match answer {
+        Some(Answered::Combined { pointers, .. }) => pointers,
+        _ => 0,
+    };
+    let [list, taken] = lists(port).map(|list| list.map_or(0, |list| list.entries().len() as u64));
     [
         ("wiring", port_cell::WIRING, kind),
         ("device", port_cell::DEVICE, port.map_or(0, |it| it.device.into())),
@@ -1123,6 +1243,9 @@ fn named_cells(port: Option<Port>) -> [(&'static str, usize, u64); castanetash::
             port_cell::EXPERIMENT,
             port.map_or(0, |it| it.experiment.into()),
         ),
+        ("pointers", port_cell::POINTERS, pointers.into()),
+        ("list", port_cell::LIST, list),
+        ("taken", port_cell::TAKEN, taken),
     ]
 }
 

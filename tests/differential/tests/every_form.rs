@@ -6,7 +6,7 @@ use yardstick::examples::FORMS;
 /// The longest message, and one byte more.
 const SIZES: usize = 128;
 
-/// Valid messages: the examples of every form, and the longest texts, values and feedback.
+/// Valid messages: the examples of every form, the longest list among them, and the longest texts, values and feedback.
 fn valid_messages() -> Vec<Vec<u8>> {
     let mut messages: Vec<Vec<u8>> = FORMS.iter().map(|example| example.bytes()).collect();
     for start in [[0x7F, 0, 0x01, 8, 6], [0x7F, 0, 0x01, 9, 6], [0x7F, 0, 0x45, 0, 0]] {
@@ -14,6 +14,9 @@ fn valid_messages() -> Vec<Vec<u8>> {
         message.resize(0x7F, 0x41);
         messages.push(message);
     }
+    let mut combined = vec![0x7F, 0, 0x46, 0, 0xFF, 0xFF];
+    combined.resize(0x7F, 0x41);
+    messages.push(combined);
     let mut feedback = vec![0x7F, 0, 0x82];
     feedback.resize(0x7F, 0x1F);
     messages.push(feedback);

@@ -89,10 +89,11 @@ fn declarations() {
     assert_eq!(declared::TABLE_CELLS, yardstick::TABLE_CELLS);
     assert_eq!(
         [declared::DATASET_CELLS, declared::PORT_CELLS, declared::FORMAT_CELLS],
-        [6, 14, 5]
+        [6, 49, 5]
     );
     assert_eq!(declared::TOTALS_CELLS, 2);
     assert_eq!([declared::MOST_DATASETS, declared::MOST_PORTS], [16, yardstick::PLACES]);
+    assert_eq!(declared::MOST_ENTRIES, yardstick::List::MOST);
     assert_eq!(
         [declared::RECORD, declared::LINE_ROOM],
         [yardstick::LOG_RECORD, yardstick::LINE_ROOM]

@@ -7,15 +7,7 @@ use differential::{printed, printed_in_pieces, wanted, Random};
 use yardstick::examples::{bytes, LOGS};
 use yardstick::make_log::{bench_log, every_log, hour_log};
 use yardstick::traffic::experiment;
-use yardstick::{log_record, Way, LOG_RECORD};
-
-/// Lines as numbers, without the totals.
-fn numbers(text: &[u8]) -> Vec<Vec<i64>> {
-    let text = std::str::from_utf8(text).expect("lines are text");
-    let numbers = |line: &str| line.split(' ').map(|it| it.parse().expect("a number")).collect();
-    let is_line = |line: &&str| !line.starts_with("total");
-    text.lines().filter(is_line).map(numbers).collect()
-}
+use yardstick::{log_lines, log_record, LogLine, Way, LOG_RECORD};
 
 /// Counts lines by their refusal, and values.
 #[derive(Default)]
@@ -27,27 +19,36 @@ struct Lines {
     with_number: u64,
     /// Values with a negative dataset.
     negative: u64,
+    /// Values of a 46, by their state.
+    combined: [u64; 4],
 }
 
 impl Lines {
-    fn add(&mut self, text: &[u8]) {
-        for line in numbers(text) {
-            self.by_refusal[line[1] as usize] += 1;
-            if let [_, _, _, _, state, experiment, datasets @ ..] = &line[..] {
+    fn add(&mut self, log: &[u8], text: &[u8]) {
+        for line in lines_of(log, text) {
+            self.by_refusal[line.refusal as usize] += 1;
+            if let Some(value) = line.value {
                 self.values += 1;
-                self.by_state[*state as usize] += 1;
-                self.with_number += u64::from(*experiment != 0);
-                self.negative += u64::from(datasets.iter().any(|&number| number < 0));
+                self.by_state[value.state as usize] += 1;
+                self.with_number += u64::from(value.experiment != 0);
+                self.negative += u64::from(value.datasets.iter().any(|&number| number < 0));
+                self.combined[value.state as usize] += u64::from(value.pointers.is_some());
             }
         }
     }
 
     fn print(&self, name: &str) {
         println!(
-            "{name}: lines by refusal {:?}, with values {}, by state {:?}, with a number {}, negative {}",
-            self.by_refusal, self.values, self.by_state, self.with_number, self.negative
+            "{name}: lines by refusal {:?}, with values {}, by state {:?}, with a number {}, negative {}, combined, by \
+             state {:?}",
+            self.by_refusal, self.values, self.by_state, self.with_number, self.negative, self.combined
         );
     }
+}
+
+/// Lines that were printed of a log, without the totals.
+fn lines_of(log: &[u8], text: &[u8]) -> Vec<LogLine> {
+    log_lines(log, std::str::from_utf8(text).expect("lines are text"))
 }
 
 /// The output is what the second program prints of the log, and nothing is told.
@@ -64,7 +65,7 @@ fn agrees(output: &Output, log: &[u8], what: &str) {
 #[track_caller]
 fn compare(log: &[u8], lines: &mut Lines, what: &str) {
     agrees(&printed(log), log, what);
-    lines.add(&wanted(log));
+    lines.add(log, &wanted(log));
 }
 
 #[test]
@@ -90,6 +91,7 @@ fn hour() {
     lines.print("hour");
     assert!(lines.with_number > 50);
     assert_eq!(lines.negative, 2);
+    assert_eq!(lines.combined, [0, 1, 4, 1]);
 }
 
 #[test]
@@ -104,14 +106,14 @@ fn made_logs() {
         compare(&every, &mut lines, "every");
     }
     lines.print("made logs");
-    let shown = [0, 1, 2, 3, 4, 5, 6, 7, 10, 11, 12, 13, 14, 15, 16, 18, 19, 22];
-    for refusal in shown {
+    for refusal in (0..=7).chain(10..=22) {
         assert!(lines.by_refusal[refusal] > 10, "refusal {refusal} is seldom");
     }
     assert!(lines.values > 1000);
     assert!(lines.by_state[1] > 100 && lines.by_state[3] > 100);
     assert!(lines.with_number > 1000);
     assert!(lines.negative > 1000);
+    assert!(lines.combined[1..].iter().all(|&seen| seen > 20));
 }
 
 #[test]
@@ -195,18 +197,19 @@ fn numbers_change_values_in_state_2_alone() {
             record[6..8].copy_from_slice(&experiment(&mut random).to_le_bytes());
             without[6..8].fill(0);
         }
-        let [lines, without] = [log, without].map(|log| numbers(&printed(&log).stdout));
+        let [lines, without] = [log, without].map(|log| lines_of(&log, &printed(&log).stdout));
         assert_eq!(lines.len(), without.len());
         for (mut line, without) in lines.into_iter().zip(without) {
-            if line.len() > 2 && line[4] == 2 {
-                in_state_2 += 1;
-                changed += u64::from(line[5] != 0);
-                line[5] = 0;
-            } else {
-                others += u64::from(line.len() > 2);
+            match &mut line.value {
+                Some(value) if value.state == 2 => {
+                    in_state_2 += 1;
+                    changed += u64::from(value.experiment != 0);
+                    value.experiment = 0;
+                }
+                value => others += u64::from(value.is_some()),
             }
             // In states 0, 1 and 3 the number is 0 in both.
-            assert!(without.len() == 2 || without[5] == 0, "{without:?}");
+            assert!(without.value.iter().all(|value| value.experiment == 0), "{without:?}");
             assert_eq!(line, without);
         }
     }
@@ -235,7 +238,7 @@ fn slow_pipes() {
     log.clear();
     bench_log(52, 3000, &mut log).expect("writing to memory");
     let mut lines = Lines::default();
-    lines.add(&wanted(&log));
+    lines.add(&log, &wanted(&log));
     lines.print("slow pipes");
     assert!(lines.values > 1000 && lines.negative > 500);
     for sizes in [&[135, 1][..], &[137], &[4096, 3, 65536], &[65535], &[65537], &[100_000]] {

@@ -1,17 +1,13 @@
 //! The commands for motors, 81 down, and their feedback, 82 up: reading, writing, tables and logs. All answers are
 //! written out by hand, field by field, and both programs are held to them.
 
+use differential::by_hand::{expect_read, expect_written, refusal, Given};
 use differential::{
     castanetash_read, castanetash_read_block, castanetash_write, printed, refused, way_byte, Lent, LentTable, Random,
     TableTally, Trio, ROW_CELLS,
 };
 use yardstick::traffic::{Scene, Traffic};
-use yardstick::{decode, log_record, read_log, write_row, MessageList, Row, Table, Way, LINE_ROOM, TABLE_CELLS};
-
-/// An answer that refuses.
-const fn refusal(number: u64, place: usize) -> u64 {
-    number << 32 | place as u64
-}
+use yardstick::{decode, log_record, read_log, MessageList, Row, Table, Way, LINE_ROOM, TABLE_CELLS};
 
 const OTHER_WAY: u64 = refusal(5, 2);
 const NO_OUTPUT: u64 = refusal(8, 0);
@@ -337,88 +333,6 @@ fn feedback_written(way: Way, open: &[u8]) -> Result<Vec<u8>, u64> {
     Ok([&[3 + open.len() as u8, 0, 0x82], open].concat())
 }
 
-/// How often calls were accepted, and how often refused with each number.
-struct Given([u64; 256]);
-
-impl Default for Given {
-    fn default() -> Given {
-        Given([0; 256])
-    }
-}
-
-impl Given {
-    fn count<T>(&mut self, answer: &Result<T, u64>) {
-        let number = answer.as_ref().err().map_or(0, |answer| answer >> 32);
-        self.0[number as usize] += 1;
-    }
-
-    fn calls(&self) -> u64 {
-        self.0.iter().sum()
-    }
-
-    /// Prints the counts, and panics unless these numbers came, 0 for acceptance, and no others.
-    fn expect(&self, name: &str, numbers: &[usize]) {
-        let seen: Vec<(usize, u64)> = self.0.iter().copied().enumerate().filter(|it| it.1 > 0).collect();
-        println!("{name}: {} calls, by answer {seen:?}", self.calls());
-        assert!(seen.iter().map(|it| &it.0).eq(numbers), "{name}: {seen:?}");
-    }
-}
-
-/// Reads a message by both programs. Nothing that is lent changes but the row of an accepted one.
-#[track_caller]
-fn expect_read(given: &mut Given, way: Way, message: &[u8], expected: Result<Row, u64>) {
-    let name = || format!("{message:02X?} {way:?}");
-    let (mut lent, mut row) = (Lent::holding(message), Lent::filled(ROW_CELLS + 2));
-    let answer = castanetash_read(lent.lend(), way_byte(way), row.lend());
-    lent.expect_unchanged("a message that is read");
-    match expected {
-        Ok(cells) => {
-            assert_eq!(answer, ROW_CELLS as u64, "{}", name());
-            row.expect(&cells, "a message's row");
-        }
-        Err(refusal) => {
-            let [answer, refusal] = [answer, refusal].map(|it| [it >> 32, it & 0xFFFF_FFFF]);
-            assert_eq!(answer, refusal, "{}", name());
-            row.expect_unchanged("a refused message's row");
-        }
-    }
-    let by_second = decode(way, message).map(|it| it.row()).map_err(refused);
-    assert_eq!(by_second, expected, "{}, second program", name());
-    given.count(&expected);
-}
-
-/// Writes a row by both programs. Nothing that is lent changes but the start of the output of an accepted one.
-#[track_caller]
-fn expect_written(given: &mut Given, way: Way, row: &Row, open: &[u8], output: usize, expected: Result<&[u8], u64>) {
-    let name = || format!("{row:X?} {way:?}, open bytes {open:02X?}, {output} bytes of output");
-    let (mut cells, mut pairs) = (Lent::holding(row), Lent::holding(open));
-    for by_product in [true, false] {
-        let mut out = Lent::filled(output);
-        let answer = if by_product {
-            castanetash_write(cells.lend(), way_byte(way), pairs.lend(), out.lend())
-        } else {
-            match write_row(way, row, open, out.lend()) {
-                Ok(length) => length as u64,
-                Err(refusal) => refused(refusal),
-            }
-        };
-        cells.expect_unchanged("a row that is written");
-        pairs.expect_unchanged("open bytes that are written");
-        match expected {
-            Ok(message) => {
-                assert_eq!(answer, message.len() as u64, "{}", name());
-                out.expect(message, "a written message");
-            }
-            Err(refusal) => {
-                let [answer, refusal] = [answer, refusal].map(|it| [it >> 32, it & 0xFFFF_FFFF]);
-                assert_eq!(answer, refusal, "{}", name());
-                out.expect_unchanged("the output of a refused message");
-            }
-        }
-    }
-    given.count(&expected);
-}
-
 /// The same with what is written by hand.
 #[track_caller]
 fn expect_written_by_hand(given: &mut Given, way: Way, row: &Row, open: &[u8], output: usize) {
@@ -606,7 +520,7 @@ fn every_sub() {
     }
     given.expect("every sub", &[0, 6, 7]);
     assert_eq!(by_sub, [1; 4]);
-    assert_eq!(given.0[7], 252 * 10 * 2 + 4);
+    assert_eq!(given.seen()[7], 252 * 10 * 2 + 4);
 }
 
 /// Degrees and positions at their edges.
@@ -750,7 +664,7 @@ fn every_byte_of_feedback() {
     }
     given.expect("every byte of feedback", &[0, 7]);
     let pairs = (1..=6).sum::<u64>() + 31 + 61 + 62;
-    assert_eq!(given.0[7], pairs * 224 * 2);
+    assert_eq!(given.seen()[7], pairs * 224 * 2);
 }
 
 /// Numbers for a cell: every one that a byte or a signed byte may have and those next to them, and the edges of wider
@@ -1046,7 +960,7 @@ fn rows_that_are_written_are_read() {
         }
     }
     given.expect("rows that are written are read", &[0, 7, 8, 255]);
-    assert!(given.0[0] >= 50_000);
+    assert!(given.seen()[0] >= 50_000);
 }
 
 /// Ports 0 and 1 are joined by port 16, port 2 is alone, and port 200 is alone and in a mode with a format. All other
@@ -1154,8 +1068,8 @@ fn commands_to_every_port() {
     }
     given.expect("commands to every port", &[0, 5, 6, 7, 10, 22]);
     // 0D to four ports and to five, the others to one; and the others to four ports twice.
-    assert_eq!(given.0[0], 4 + 5 + 3);
-    assert_eq!(given.0[22], 3 * (4 + 4));
+    assert_eq!(given.seen()[0], 4 + 5 + 3);
+    assert_eq!(given.seen()[22], 3 * (4 + 4));
 }
 
 /// A port that was virtual and is attached again as another is no longer one, and the other way round.
@@ -1234,8 +1148,8 @@ fn feedback_about_every_port() {
         tables.expect(&mut given, Way::Up, &[7, 0, 0x82, port, 0, 2, 0x20], field(6));
     }
     given.expect("feedback about every port", &[0, 5, 6, 7, 10]);
-    assert_eq!(given.0[0], 62 + 5 * 3);
-    assert_eq!(given.0[10], (1..=62).sum::<u64>() + 251 * 3);
+    assert_eq!(given.seen()[0], 62 + 5 * 3);
+    assert_eq!(given.seen()[10], (1..=62).sum::<u64>() + 251 * 3);
 }
 
 /// The lines of commands and feedback are their numbers and refusals: by the product's call, by its log reader and by
@@ -1319,7 +1233,7 @@ fn lists_of_messages() {
         for _ in 0..300 {
             let (way, message, experiment) = traffic.next(trio.table());
             let form = decode(way, &message).map_or(0, |it| usize::from(it.form.number()));
-            if form >= 34 {
+            if (34..=38).contains(&form) {
                 let answer = trio.table().clone().offer(way, &message, experiment);
                 let column = match answer.map_err(|refusal| refusal.number) {
                     Ok(()) => 0,

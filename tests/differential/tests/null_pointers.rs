@@ -276,7 +276,8 @@ fn port_and_format() {
     }
     let full = || Slice::of(&table());
     let row = || Slice::filled(PORT_CELLS + 2);
-    let port = [1, 0x26, 0, 0, 0, 0, 0, 0, 0, 1, 2, 1, 1, 0];
+    let mut port = [0; PORT_CELLS];
+    port[..14].copy_from_slice(&[1, 0x26, 0, 0, 0, 0, 0, 0, 0, 1, 2, 1, 1, 0]);
     let format = [1, 1, 0, 3, 0];
     expect(
         || (full(), row()),

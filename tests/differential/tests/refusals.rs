@@ -8,7 +8,7 @@ use differential::{
     castanetash_read, castanetash_read_block, castanetash_values, castanetash_write, number, Lent, BAD_ROW,
     DATASET_CELLS, FORMAT_CELLS, NOT_SOUND, PORT_CELLS, ROW_CELLS, TOTALS_CELLS,
 };
-use yardstick::examples::{bytes, SOUND};
+use yardstick::examples::{bytes, COMBINED_SOUND, SOUND};
 use yardstick::{log_record, Table, Way, LINE_ROOM, LOG_RECORD, TABLE_CELLS};
 
 const DOWN: u8 = 0;
@@ -57,7 +57,7 @@ fn expect_written<T: differential::Filling>(answer: u64, lent: &Lent<T>, written
 }
 
 /// Messages that reading refuses, with their way and the answer. The place of 6 is the size that was wanted.
-const UNREAD: [(u8, &str, u64); 26] = [
+const UNREAD: [(u8, &str, u64); 35] = [
     (DOWN, "", refusal(1, 0)),
     (UP, "80", refusal(2, 0)),
     (DOWN, "04 00 02", refusal(3, 0)),
@@ -84,6 +84,15 @@ const UNREAD: [(u8, &str, u64); 26] = [
     (DOWN, "0F 00 81 10 11 0C 00 00 00 00 32 9B 64 00 00", refusal(7, 11)),
     (UP, "06 00 82 10 20 00", refusal(6, 5)),
     (UP, "07 00 82 63 0A 00 20", refusal(7, 6)),
+    (UP, "08 00 42 00 01 00 10 21", refusal(5, 2)),
+    (DOWN, "07 00 48 06 00 01 00", refusal(5, 2)),
+    (DOWN, "04 00 42 00", refusal(6, 5)),
+    (DOWN, "06 00 42 00 01 00", refusal(6, 7)),
+    (DOWN, "06 00 42 00 02 00", refusal(6, 5)),
+    (UP, "06 00 46 06 01 00", refusal(6, 7)),
+    (UP, "08 00 48 06 00 01 00 00", refusal(6, 7)),
+    (DOWN, "05 00 42 00 05", refusal(7, 4)),
+    (DOWN, "0A 00 42 00 01 00 10 21 21 10", refusal(7, 8)),
 ];
 
 #[test]
@@ -124,6 +133,26 @@ fn read() {
             UP,
             "07 00 82 10 0A 00 1F",
             [38, 3, 4, 0, 0, 0, 0, 0, 0, 0, 0, 0, 0, 0, 0, 0],
+        ),
+        (
+            DOWN,
+            "05 00 42 07 06",
+            [39, 0, 0, 2, 7, 6, 0, 0, 0, 0, 0, 0, 0, 0, 0, 0],
+        ),
+        (
+            DOWN,
+            "08 00 42 07 01 03 10 21",
+            [40, 6, 2, 3, 7, 1, 3, 0, 0, 0, 0, 0, 0, 0, 0, 0],
+        ),
+        (
+            UP,
+            "09 00 46 07 03 01 80 FE FF",
+            [41, 6, 3, 2, 7, 0x103, 0, 0, 0, 0, 0, 0, 0, 0, 0, 0],
+        ),
+        (
+            UP,
+            "07 00 48 07 80 03 01",
+            [42, 0, 0, 3, 7, 0x80, 0x103, 0, 0, 0, 0, 0, 0, 0, 0, 0],
         ),
     ] {
         for cells in 0..ROW_CELLS {
@@ -169,7 +198,7 @@ fn write() {
         }
     }
     // No form, which comes as early.
-    for form in [0, 39, 255, 256 + 21, 1 << 32 | 21, u64::MAX] {
+    for form in [0, 43, 255, 256 + 21, 1 << 32 | 21, u64::MAX] {
         for way in [DOWN, UP] {
             for out in every_output() {
                 call(way, &row(form, &[0x32, 15, 1, 1]), b"xyz", out, BAD_ROW, "");
@@ -185,6 +214,10 @@ fn write() {
         call(DOWN, &row(18, &[300]), b"xyz", out, refusal(5, 2), "");
         call(UP, &row(34, &[300, 300, 300]), b"xyz", out, refusal(5, 2), "");
         call(DOWN, &row(38, &[]), b"xyz", out, refusal(5, 2), "");
+        call(UP, &row(39, &[300, 300]), b"xyz", out, refusal(5, 2), "");
+        call(UP, &row(40, &[300, 300, 300]), b"xx", out, refusal(5, 2), "");
+        call(DOWN, &row(41, &[300, 65_536]), b"", out, refusal(5, 2), "");
+        call(DOWN, &row(42, &[300, 300, 65_536]), b"x", out, refusal(5, 2), "");
         // 11, 12 and 13 are only read, which comes next; alone, and with wrong open bytes and a wide number.
         for open in [&b""[..], b"xyz"] {
             call(DOWN, &row(16, &[]), open, out, refusal(23, 0), "");
@@ -201,6 +234,10 @@ fn write() {
         call(UP, &row(24, &[300, 300, 1]), b"", out, refusal(7, 5), "");
         call(DOWN, &row(37, &[300, 300, 12]), b"xyz", out, refusal(7, 5), "");
         call(DOWN, &row(37, &[300, 300, 256 + 20]), b"xyz", out, refusal(7, 5), "");
+        call(DOWN, &row(39, &[300, 5]), b"xyz", out, refusal(7, 4), "");
+        call(DOWN, &row(39, &[300, 1]), b"xyz", out, refusal(7, 4), "");
+        call(DOWN, &row(40, &[300, 2, 300]), b"", out, refusal(7, 4), "");
+        call(DOWN, &row(40, &[300, 256 + 1, 300]), b"xx", out, refusal(7, 4), "");
         // Open bytes: some for a form without them, too few, too many. The count of a 43. The place is the smallest
         // size of the form, of a 43's list the one with a single entry.
         call(DOWN, &row(21, &[300, 300, 1, 300]), b"x", out, refusal(6, 10), "");
@@ -218,6 +255,12 @@ fn write() {
         call(UP, &row(38, &[]), b"", out, refusal(6, 5), "");
         call(UP, &row(38, &[]), b"\x10\x0A\x00", out, refusal(6, 5), "");
         call(UP, &row(38, &[]), &[0xFF; 126], out, refusal(6, 5), "");
+        call(DOWN, &row(39, &[300, 6]), b"x", out, refusal(6, 5), "");
+        call(DOWN, &row(40, &[300, 1, 300]), b"", out, refusal(6, 7), "");
+        call(DOWN, &row(40, &[300, 1, 300]), &[b'x'; 17], out, refusal(6, 7), "");
+        call(UP, &row(41, &[300, 65_536]), b"", out, refusal(6, 7), "");
+        call(UP, &row(41, &[0, 1]), &[b'x'; 122], out, refusal(6, 7), "");
+        call(UP, &row(42, &[300, 300, 65_536]), b"x", out, refusal(6, 7), "");
         // Fields with a list: the first of two, the second, and one to the right of a wide number.
         call(DOWN, &row(21, &[300, 300, 1, 300]), b"", out, refusal(7, 4), "");
         call(DOWN, &row(21, &[300, 15, 1 << 32, 2]), b"", out, refusal(7, 9), "");
@@ -238,6 +281,14 @@ fn write() {
         call(DOWN, &turn(360, 200), b"", out, refusal(7, 11), "");
         call(DOWN, &turn(360, i64::MIN), b"", out, refusal(7, 11), "");
         call(UP, &row(38, &[]), b"\x10\x1F\x00\x20", out, refusal(7, 6), "");
+        call(
+            DOWN,
+            &row(40, &[300, 1, 300]),
+            b"\x10\x21\x21\x10",
+            out,
+            refusal(7, 8),
+            "",
+        );
         // Numbers that are wider than their fields, which have no list.
         call(DOWN, &turn(360, -100), b"", out, BAD_ROW, "");
         call(DOWN, &row(37, &[16, 17, 20, 1 << 31, 0]), b"", out, BAD_ROW, "");
@@ -245,6 +296,10 @@ fn write() {
         call(DOWN, &row(21, &[0, 15, 1 << 32, 1]), b"", out, BAD_ROW, "");
         call(UP, &row(4, &[5, 6, 128]), b"", out, BAD_ROW, "");
         call(UP, &row(23, &[0, 2, 2, 1, 65_536]), b"", out, BAD_ROW, "");
+        call(DOWN, &row(39, &[300, 6]), b"", out, BAD_ROW, "");
+        call(DOWN, &row(40, &[0, 1, 300]), b"\x10\x21", out, BAD_ROW, "");
+        call(UP, &row(41, &[0, 65_536]), b"x", out, BAD_ROW, "");
+        call(UP, &row(42, &[0, 256, 1]), b"", out, BAD_ROW, "");
     }
     // The output, of every length.
     let written = "0A 00 41 32 0F 12 34 56 78 01";
@@ -266,12 +321,20 @@ fn write() {
     for out in [7, 8, 127, 128, 200] {
         call(UP, &feedback, b"\x10\x0A\x00\x1F", out, 7, "07 00 82 10 0A 00 1F");
     }
+    let list = row(40, &[7, 1, 3]);
+    for out in 0..8 {
+        call(DOWN, &list, b"\x10\x21", out, refusal(8, 0), "");
+    }
+    for out in [8, 9, 127, 128, 200] {
+        call(DOWN, &list, b"\x10\x21", out, 8, "08 00 42 07 01 03 10 21");
+    }
     given.expect_all("castanetash_write", &[0, 5, 6, 7, 8, 23, 255]);
 }
 
-/// A table with ports 0 to 5, 16 and 200. Port 0 sends two numbers of 16 bits in mode 0, as experiment 301 asked; port 1
+/// A table with ports 0 to 6, 16 and 200. Port 0 sends two numbers of 16 bits in mode 0, as experiment 301 asked; port 1
 /// has no mode; port 2 has one without a format; port 3 sends two floats in mode 1, which nobody asked for; ports 4 and 5
-/// are joined by 16.
+/// are joined by 16. Port 6 is combined, as experiment 301 asked: a number of 8 bits in mode 1, a float in mode 2, mode 3,
+/// which has no format, and a dataset that mode 1 has not; the hub has pointers to these, and not to a fifth.
 fn table() -> Vec<u32> {
     let mut table = Table::default();
     for (way, message) in [
@@ -289,6 +352,11 @@ fn table() -> Vec<u32> {
         (Way::Up, "0A 00 47 02 03 01 00 00 00 00"),
         (Way::Up, "0A 00 44 03 01 80 02 03 04 02"),
         (Way::Up, "0A 00 47 03 01 01 00 00 00 00"),
+        (Way::Up, "0F 00 04 06 01 25 00 00 00 00 10 00 00 00 10"),
+        (Way::Up, "0A 00 44 06 01 80 01 00 03 00"),
+        (Way::Up, "0A 00 44 06 02 80 02 03 08 03"),
+        (Way::Down, "0B 00 42 06 01 00 10 21 30 1F 20"),
+        (Way::Up, "07 00 48 06 00 0F 00"),
     ] {
         let answer = table.offer(way, &bytes(message), 301);
         assert_eq!(answer, Ok(()), "{message}");
@@ -297,7 +365,7 @@ fn table() -> Vec<u32> {
 }
 
 /// The ports of that table.
-const PORTS: [u8; 8] = [0, 1, 2, 3, 4, 5, 16, 200];
+const PORTS: [u8; 9] = [0, 1, 2, 3, 4, 5, 6, 16, 200];
 
 /// A table whose sixteen places are in use, by ports 100 to 115.
 fn full() -> Vec<u32> {
@@ -312,20 +380,21 @@ fn full() -> Vec<u32> {
 
 /// Cells that are no sound table: those that are unsound by hand, and other lengths.
 fn unsound() -> Vec<Vec<u32>> {
-    let damaged = SOUND.iter().filter(|example| !example.is_sound);
+    let examples = SOUND.iter().chain(COMBINED_SOUND);
+    let damaged = examples.filter(|example| !example.is_sound);
     let mut tables: Vec<Vec<u32>> = damaged.map(|example| example.cells().to_vec()).collect();
-    for length in [0, 1, 2, 28, 29, 30, 448, 463, 465, 493, 928] {
+    for length in [0, 1, 2, 62, 63, 64, 464, 945, 1007, 1009, 1071, 2016] {
         tables.push(vec![0; length]);
         let mut cells = table();
         cells.resize(length, 0);
         tables.push(cells);
     }
-    assert!(tables.len() >= 80, "{} tables", tables.len());
+    assert!(tables.len() >= 150, "{} tables", tables.len());
     tables
 }
 
 /// Messages that reading accepts and the table refuses, with the answer.
-const UNSUITABLE: [(u8, &str, u64); 18] = [
+const UNSUITABLE: [(u8, &str, u64); 32] = [
     (UP, "05 00 45 63 00", refusal(10, 0)),
     (DOWN, "05 00 21 63 00", refusal(10, 0)),
     (UP, "0F 00 04 00 01 26 00 00 00 00 10 00 00 00 10", refusal(11, 0)),
@@ -348,16 +417,33 @@ const UNSUITABLE: [(u8, &str, u64); 18] = [
         refusal(22, 0),
     ),
     (UP, "07 00 82 10 0A 63 01", refusal(10, 0)),
+    (DOWN, "05 00 42 63 02", refusal(10, 0)),
+    (DOWN, "08 00 42 63 01 00 10 21", refusal(10, 0)),
+    (UP, "07 00 48 63 00 00 00", refusal(10, 0)),
+    (UP, "07 00 46 63 00 00 00", refusal(10, 0)),
+    (UP, "05 00 45 06 00", refusal(14, 0)),
+    (UP, "07 00 46 00 00 00 00", refusal(20, 0)),
+    (UP, "07 00 48 00 00 01 00", refusal(21, 0)),
+    (UP, "07 00 48 06 00 00 00", refusal(21, 0)),
+    (UP, "07 00 48 06 00 20 00", refusal(21, 0)),
+    (UP, "07 00 46 06 00 00 00", refusal(21, 0)),
+    (UP, "07 00 46 06 14 00 00", refusal(21, 0)),
+    (UP, "07 00 46 06 0C 00 00", refusal(15, 0)),
+    (UP, "07 00 46 06 0A 00 00", refusal(17, 0)),
+    (UP, "0A 00 46 06 03 00 FE 00 00 80", refusal(16, 0)),
 ];
 
 /// Messages that are accepted and have no value.
-const OTHERS: [(u8, &str); 6] = [
+const OTHERS: [(u8, &str); 9] = [
     (DOWN, "03 00 12"),
     (UP, "04 00 13 FF"),
     (DOWN, "0A 00 41 01 02 01 00 00 00 01"),
     (DOWN, "0E 00 81 10 11 14 00 00 00 00 00 00 00 00"),
     (DOWN, "0E 00 81 04 11 0D 00 00 00 00 01 00 00 00"),
     (UP, "09 00 82 10 0A 04 01 C8 1F"),
+    (DOWN, "05 00 42 06 06"),
+    (DOWN, "07 00 42 01 01 00 10"),
+    (UP, "07 00 48 06 00 01 00"),
 ];
 
 /// The value of port 0: 5 and -3.
@@ -368,13 +454,17 @@ const FLOATS: &str = "0C 00 45 03 00 00 80 3F 00 00 00 40";
 const LAST_INFINITE: &str = "0C 00 45 03 00 00 80 3F 00 00 80 7F";
 const FIRST_NAN: &str = "0C 00 45 03 00 00 C0 7F 00 00 00 40";
 
+/// Combined values of port 6: -2 and 1.0, and with a NaN in place of that.
+const COMBINED: &str = "0B 00 46 06 03 00 FE 00 00 80 3F";
+const COMBINED_NAN: &str = "0B 00 46 06 03 00 FE 00 00 C0 7F";
+
 /// All messages that a table call refuses, or that have no value, for calls that come to 9 before.
 fn all_messages() -> Vec<(u8, &'static str)> {
     let refused = UNREAD
         .iter()
         .chain(&UNSUITABLE)
         .map(|&(way, message, _)| (way, message));
-    let values = [VALUE, FLOATS, LAST_INFINITE, FIRST_NAN].map(|message| (UP, message));
+    let values = [VALUE, FLOATS, LAST_INFINITE, FIRST_NAN, COMBINED, COMBINED_NAN].map(|message| (UP, message));
     refused.chain(OTHERS).chain(values).collect()
 }
 
@@ -392,7 +482,7 @@ fn empty() {
         given.expect(answer, expected, &name);
         expect_written(answer, &table, &[0; TABLE_CELLS], &name);
     }
-    for length in (0..1000).filter(|&length| length != TABLE_CELLS) {
+    for length in (0..1100).filter(|&length| length != TABLE_CELLS) {
         let name = format!("{length} cells");
         let mut table = Lent::filled(length);
         given.expect(castanetash_empty(table.lend()), NOT_SOUND, &name);
@@ -444,18 +534,21 @@ fn offer() {
     );
     call(&full(), UP, "09 00 04 00 02 26 00 64 64", refusal(12, 0));
     // Accepted ones: most leave the table as it is, and a value does, whatever its floats are.
-    for message in [VALUE, FLOATS, LAST_INFINITE, FIRST_NAN] {
+    for message in [VALUE, FLOATS, LAST_INFINITE, FIRST_NAN, COMBINED, COMBINED_NAN] {
         assert_eq!(call(&table(), UP, message, 0), table());
     }
     assert_eq!(call(&table(), DOWN, "03 00 12", 0), table());
-    for (way, message) in &OTHERS[3..] {
+    for (way, message) in &OTHERS[3..7] {
         assert_eq!(call(&table(), *way, message, 0), table());
+    }
+    for (way, message) in &OTHERS[7..] {
+        assert_ne!(call(&table(), *way, message, 0), table());
     }
     assert_eq!(call(&table(), UP, "04 00 02 30", 0), [0; TABLE_CELLS]);
     assert_ne!(call(&table(), DOWN, "0A 00 41 01 02 01 00 00 00 01", 0), table());
     given.expect_all(
         "castanetash_offer",
-        &[0, 1, 2, 3, 4, 5, 6, 7, 9, 10, 11, 12, 13, 14, 15, 16, 22],
+        &[0, 1, 2, 3, 4, 5, 6, 7, 9, 10, 11, 12, 13, 14, 15, 16, 17, 20, 21, 22],
     );
 }
 
@@ -495,6 +588,8 @@ fn dataset() {
         call(&full(), UP, attached, 0, room, refusal(13, 0), &[]);
         // No dataset of that number, and no value at all. 17 comes before 18.
         for number in [2, 3, 16, 255, 256, 1 << 16, 1 << 32, usize::MAX] {
+            call(&cells, UP, COMBINED, number, room, refusal(17, 0), &[]);
+            call(&cells, UP, COMBINED_NAN, number, room, refusal(17, 0), &[]);
             call(&cells, UP, VALUE, number, room, refusal(17, 0), &[]);
             call(&cells, UP, FIRST_NAN, number, room, refusal(17, 0), &[]);
         }
@@ -503,6 +598,7 @@ fn dataset() {
         }
         call(&cells, UP, FIRST_NAN, 0, room, refusal(18, 0), &[]);
         call(&cells, UP, LAST_INFINITE, 1, room, refusal(18, 0), &[]);
+        call(&cells, UP, COMBINED_NAN, 1, room, refusal(18, 0), &[]);
     }
     for (message, number, row) in [
         (VALUE, 0, [0, 5, 0, 0, 2, 301]),
@@ -512,6 +608,10 @@ fn dataset() {
         // The other one is not judged.
         (LAST_INFINITE, 0, [1, 0x3F80_0000, 3, 1, 0, 0]),
         (FIRST_NAN, 1, [1, 0x4000_0000, 3, 1, 0, 0]),
+        // The mode is that of the entry. The hub has no pointer to the fifth entry, so the state is 3.
+        (COMBINED, 0, [0, -2_i64 as u64, 6, 1, 3, 0]),
+        (COMBINED, 1, [1, 0x3F80_0000, 6, 2, 3, 0]),
+        (COMBINED_NAN, 0, [0, -2_i64 as u64, 6, 1, 3, 0]),
     ] {
         for room in 0..DATASET_CELLS {
             call(&cells, UP, message, number, room, BAD_ROW, &[]);
@@ -522,7 +622,9 @@ fn dataset() {
     }
     given.expect_all(
         "castanetash_dataset",
-        &[0, 1, 2, 3, 4, 5, 6, 7, 9, 10, 11, 12, 13, 14, 15, 16, 17, 18, 22, 255],
+        &[
+            0, 1, 2, 3, 4, 5, 6, 7, 9, 10, 11, 12, 13, 14, 15, 16, 17, 18, 20, 21, 22, 255,
+        ],
     );
 }
 
@@ -560,10 +662,12 @@ fn values() {
         // Any dataset that isn't finite, even if the rows before it would be long enough.
         call(&cells, UP, FIRST_NAN, room, refusal(18, 0), &[]);
         call(&cells, UP, LAST_INFINITE, room, refusal(18, 0), &[]);
+        call(&cells, UP, COMBINED_NAN, room, refusal(18, 0), &[]);
     }
     for (message, rows) in [
         (VALUE, [0, 5, 0, 0, 2, 301, 0, -3_i64 as u64, 0, 0, 2, 301]),
         (FLOATS, [1, 0x3F80_0000, 3, 1, 0, 0, 1, 0x4000_0000, 3, 1, 0, 0]),
+        (COMBINED, [0, -2_i64 as u64, 6, 1, 3, 0, 1, 0x3F80_0000, 6, 2, 3, 0]),
     ] {
         for room in 0..rows.len() {
             call(&cells, UP, message, room, BAD_ROW, &[]);
@@ -574,7 +678,9 @@ fn values() {
     }
     given.expect_all(
         "castanetash_values",
-        &[0, 1, 2, 3, 4, 5, 6, 7, 9, 10, 11, 12, 13, 14, 15, 16, 17, 18, 22, 255],
+        &[
+            0, 1, 2, 3, 4, 5, 6, 7, 9, 10, 11, 12, 13, 14, 15, 16, 17, 18, 20, 21, 22, 255,
+        ],
     );
 }
 
@@ -628,15 +734,23 @@ fn port() {
             call(&cells, 99, room, NOT_SOUND, &[]);
         }
     }
-    for (port, row) in [
-        (0, [1, 0x26, 0, 0, 2, 1, 0, 10, 1, 1, 0, 10, 1, 301]),
-        (1, [1, 0x26, 0, 0, 0, 0, 0, 0, 0, 0, 0, 0, 0, 0]),
-        (2, [1, 0x26, 0, 0, 0, 0, 0, 0, 0, 1, 3, 1, 0, 0]),
-        (5, [2, 0x26, 16, 0, 0, 0, 0, 0, 0, 0, 0, 0, 0, 0]),
-        (16, [3, 0x27, 4, 5, 0, 0, 0, 0, 0, 0, 0, 0, 0, 0]),
+    // The other cells are zeros.
+    let list = [5, 0x10, 0x21, 0x30, 0x1F, 0x20];
+    for (port, start, list) in [
+        (0, &[1, 0x26, 0, 0, 2, 1, 0, 10, 1, 1, 0, 10, 1, 301][..], &[][..]),
+        (1, &[1, 0x26], &[]),
+        (2, &[1, 0x26, 0, 0, 0, 0, 0, 0, 0, 1, 3, 1, 0, 0], &[]),
+        (5, &[2, 0x26, 16], &[]),
+        (6, &[1, 0x25, 0, 0, 3, 2, 0, 0, 0, 2, 0, 0, 0, 301, 15], &list),
+        (16, &[3, 0x27, 4, 5], &[]),
         // An absent port is no refusal.
-        (99, [0; PORT_CELLS]),
+        (99, &[], &[]),
     ] {
+        let mut row = [0; PORT_CELLS];
+        row[..start.len()].copy_from_slice(start);
+        for cell in [15, 32] {
+            row[cell..][..list.len()].copy_from_slice(list);
+        }
         for room in 0..PORT_CELLS {
             call(&table(), port, room, BAD_ROW, &[]);
         }

@@ -21,9 +21,12 @@ fn sizes(message_type: u8) -> &'static [usize] {
         0x21 => &[4, 5, 6],
         0x22 => &[5, 6, 7],
         0x41 | 0x47 => &[9, 10, 11],
+        0x42 => &[3, 4, 5, 6, 7, 8, 21, 22, 23],
         0x43 => &[4, 5, 6, 7, 8, 9, 10, 11, 12, 13, 15, 17, 19, 20, 21, 22, 23],
         0x44 => &[5, 6, 7, 8, 9, 10, 11, 12, 13, 14, 15, 16, 17, 18],
         0x45 => &[3, 4, 5, 6, 127],
+        0x46 => &[3, 5, 6, 7, 8, 127],
+        0x48 => &[3, 6, 7, 8],
         0x61 => &[3, 4, 5, 6, 7],
         0x81 => &[3, 4, 5, 6, 7, 13, 14, 15, 16, 17, 18, 19],
         0x82 => &[3, 4, 5, 6, 7, 8, 9, 126, 127],
@@ -58,7 +61,7 @@ fn contents(way: Way, message_type: u8) -> Vec<[u8; 127]> {
 /// All pairs of values at `place` and the next, for all known types, each way.
 fn every_pair_at(place: usize) -> Tally {
     let types: BTreeSet<u8> = Way::BOTH.into_iter().flat_map(known_types).copied().collect();
-    assert_eq!(types.len(), 19, "the known types");
+    assert_eq!(types.len(), 22, "the known types");
     let mut tally = Tally::default();
     for way in Way::BOTH {
         for &message_type in &types {

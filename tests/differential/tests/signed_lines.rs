@@ -120,7 +120,7 @@ struct Since {
     floats: u64,
 }
 
-/// Holds each dataset that is printed of a log to what was printed when there was no sign.
+/// Holds each dataset of a 45 that is printed of a log to what was printed when there was no sign. There were no 46s then.
 fn compare_with_unsigned(log: &[u8], since: &mut Since) {
     let text = String::from_utf8(printed(log).stdout).expect("lines are text");
     let mut table = Table::default();
@@ -130,6 +130,9 @@ fn compare_with_unsigned(log: &[u8], since: &mut Since) {
         };
         // A refused message changes nothing.
         let _ = table.offer(way, message, experiment);
+        if message.get(2) == Some(&0x46) {
+            continue;
+        }
         let words: Vec<&str> = line.split(' ').collect();
         let [_, _, port, mode, _, _, datasets @ ..] = &words[..] else {
             continue;

@@ -5,7 +5,7 @@ use differential::{
     dataset_cells, format_cells, offer_answer, port_cells, refused, values_cells, LentTable, Random, TableTally,
     NOT_SOUND,
 };
-use yardstick::examples::SOUND;
+use yardstick::examples::{COMBINED_SOUND, SOUND};
 use yardstick::traffic::{compose, experiment, Scene, Traffic};
 use yardstick::{Form, Table, TableCells, Way, RECORD_CELLS, TABLE_CELLS};
 
@@ -99,7 +99,8 @@ fn table_and_messages(seed: u64, cells: &[u32]) -> (Table, Vec<(Way, Vec<u8>, u1
 
 /// The sound example of a name.
 fn example(name: &str) -> TableCells {
-    let example = SOUND.iter().find(|example| example.name == name && example.is_sound);
+    let mut examples = SOUND.iter().chain(COMBINED_SOUND);
+    let example = examples.find(|example| example.name == name && example.is_sound);
     example.unwrap_or_else(|| panic!("no sound example: {name}")).cells()
 }
 
@@ -142,17 +143,60 @@ fn every_state() -> TableCells {
     table.to_cells()
 }
 
-/// Sound tables: the empty one, two of the examples, some that messages have made, a full one among them, and one with
-/// every state.
-fn sound_tables() -> [TableCells; 7] {
+/// A table with ports that have lists, each of whose modes has a format: asked for a list; combined, in states 1, 2 and
+/// 3; single again, asked by list and by mode.
+fn with_lists() -> TableCells {
+    let mut table = Table::default();
+    for port in 0..6 {
+        let mut offer = |way, form, values: &[u64], open: &[u8]| {
+            let message = compose(way, form, values, open);
+            let answer = table.offer(way, &message, 0x0200 + port as u16);
+            assert_eq!(answer, Ok(()), "{message:02X?}");
+        };
+        offer(Way::Up, Form::Attached, &[port, 1, 0x25, 0, 0], &[]);
+        for (mode, datasets, kind) in [(0, 1, 0), (1, 2, 1), (2, 3, 2), (15, 1, 3)] {
+            offer(
+                Way::Up,
+                Form::ValueFormat,
+                &[port, mode, 0x80, datasets, kind, 3, 0],
+                &[],
+            );
+        }
+        let list = [0x00, 0x11, 0x22, 0xF0];
+        offer(Way::Down, Form::ModeDatasets, &[port, 1, 0], &list);
+        if port > 0 {
+            let pointers = if port == 3 { 0b1011 } else { 0b1111 };
+            offer(Way::Up, Form::InputFormatCombined, &[port, 0, pointers], &[]);
+        }
+        match port {
+            1 => offer(Way::Down, Form::ModeDatasets, &[port, 1, 0], &[0x22, 0x21, 0x20]),
+            4 => offer(Way::Up, Form::InputFormat, &[port, 2, 5, 1], &[]),
+            5 => {
+                offer(Way::Down, Form::InputFormatSetup, &[port, 2, 5, 1], &[]);
+                offer(Way::Up, Form::InputFormat, &[port, 2, 5, 1], &[]);
+            }
+            _ => {}
+        }
+    }
+    let states = (0..6).filter_map(|port| table.port(port)).map(|it| it.state.number());
+    assert!(states.eq([1, 1, 2, 3, 3, 2]));
+    table.to_cells()
+}
+
+/// Sound tables: the empty one, three of the examples, some that messages have made, a full one among them, one with
+/// every state, and one with lists.
+fn sound_tables() -> [TableCells; 10] {
     [
         [0; TABLE_CELLS],
         example("nothing"),
         example("a virtual port with the number 0"),
+        example("no list changed"),
         made(1, Scene::Crowd, 16),
         made(2, Scene::Mixed, 8),
         made(3, Scene::Pairs, 4),
+        made(4, Scene::Combined, 2),
         every_state(),
+        with_lists(),
     ]
 }
 
@@ -201,7 +245,7 @@ fn every_cell_changed() {
                 let message = |turn: usize| messages[turn % messages.len()].clone();
                 // The changed record and, in its formats, the changed one; or one in turn.
                 let own_port = cells[place * RECORD_CELLS + 1] as u8;
-                let own_mode = cell_of_record.checked_sub(RECORD_CELLS - 16);
+                let own_mode = (13..29).contains(&cell_of_record).then(|| cell_of_record - 13);
                 let calls = Calls {
                     port: if turn % 2 == 0 {
                         own_port
@@ -225,6 +269,8 @@ fn every_cell_changed() {
     tally.expect_handed_out([0, 17], 1000);
     tally.expect_whole([9], 50_000);
     tally.expect_whole([0, 17], 1000);
+    tally.expect_offered([20, 21], 100);
+    tally.expect_offered([17], 5);
     tally.expect_ports(200);
     tally.expect_numbers(50);
 }
@@ -301,7 +347,7 @@ fn expect_soundness(product: &mut LentTable, is_sound: bool, name: &str) {
 #[test]
 fn sound_examples() {
     let mut tally = TableTally::default();
-    for example in SOUND {
+    for example in SOUND.iter().chain(COMBINED_SOUND) {
         let cells = example.cells();
         let mut product = LentTable::new(&cells);
         expect_soundness(&mut product, example.is_sound, example.name);
@@ -335,6 +381,9 @@ fn sound_examples() {
                     10,
                 ),
                 (Way::Up, vec![0x07, 0x00, 0x82, port, 0x0A, 11, 0x0A], 11),
+                (Way::Down, vec![0x07, 0x00, 0x42, port, 0x01, 0x00, 0x10], 0x0C0D),
+                (Way::Up, vec![0x07, 0x00, 0x48, port, 0x00, 0x01, 0x00], 14),
+                (Way::Up, vec![0x07, 0x00, 0x46, port, 0x01, 0x00, 0x02], 15),
             ],
         };
         for port in (0..20).chain([200, 254, 255]) {
@@ -342,7 +391,7 @@ fn sound_examples() {
         }
     }
     println!("sound examples: {tally}");
-    tally.expect_offered([0, 9, 10, 12, 14, 15, 22], 50);
+    tally.expect_offered([0, 9, 10, 12, 14, 15, 20, 21, 22], 50);
 }
 
 /// The sound tables of above with their records in another order, and something harmed now and then.
@@ -351,7 +400,7 @@ fn random_order_and_damage() {
     let mut tally = TableTally::default();
     let mut random = Random::new(11);
     let bases = sound_tables().map(|cells| (cells, table_and_messages(11, &cells)));
-    for _ in 0..60_000 {
+    for _ in 0..80_000 {
         let (cells, (table, messages)) = &bases[random.below(bases.len())];
         let mut cells = *cells;
         shuffle(&mut random, &mut cells);
@@ -377,6 +426,7 @@ fn random_order_and_damage() {
     tally.expect_offered(10..=16, 100);
     tally.expect_handed_out([0, 9, 17], 1000);
     tally.expect_whole([0, 9, 17], 1000);
+    tally.expect_offered([20, 21], 100);
     tally.expect_ports(500);
     tally.expect_numbers(100);
 }
@@ -404,7 +454,10 @@ fn harm(random: &mut Random, cells: &mut TableCells, table: &Table) {
             cells[place + cell] = cells[other + cell];
         }
         _ => {
-            let cell = place + random.one_of(&[0, 0, 1, 3, 3, 4, 5, 5, 6, 7, 8, 9, 9, 9, 10, 11, 12, 13, 28]);
+            const CELLS: [usize; 29] = [
+                0, 0, 1, 3, 3, 4, 5, 5, 6, 7, 8, 9, 9, 9, 10, 11, 12, 13, 28, 29, 29, 30, 31, 45, 46, 46, 47, 48, 62,
+            ];
+            let cell = place + random.one_of(&CELLS);
             let contents = contents(cells[cell], table);
             cells[cell] = random.one_of(&contents);
         }
@@ -415,7 +468,7 @@ fn harm(random: &mut Random, cells: &mut TableCells, table: &Table) {
 fn wrong_lengths() {
     let messages: [&[u8]; 4] = [&[], &[0x80], &[0x03, 0x00, 0x12], &[0x04, 0x00, 0x02, 0x30]];
     for content in [0, 1, u32::MAX] {
-        for length in [0, 1, 28, 29, 448, 463, 465, 493, 928] {
+        for length in [0, 1, 62, 63, 464, 945, 1007, 1009, 1071, 2016] {
             let cells = vec![content; length];
             let mut product = LentTable::new(&cells);
             let name = format!("{length} cells with {content}");
@@ -435,7 +488,7 @@ fn wrong_lengths() {
     }
 }
 
-/// Any 464 cells are made an empty table.
+/// Any 1008 cells are made an empty table.
 #[test]
 fn empty() {
     let mut random = Random::new(12);

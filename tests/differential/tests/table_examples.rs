@@ -1,14 +1,15 @@
 //! All programs give every answer about tables that is written out by hand.
 
 use differential::{dataset_cells, format_cells, offer_answer, port_cells, LentTable, TableTally, Trio, PORT_CELLS};
-use yardstick::examples::{bytes, TableStep, EXPERIMENTS, TABLES, WHOLE_NUMBERS};
+use yardstick::examples::{bytes, TableStep, COMBINED, EXPERIMENTS, TABLES, WHOLE_NUMBERS};
 use yardstick::traffic::compose;
 use yardstick::{Form, Refusal, Way, RECORD_CELLS};
 
 #[test]
 fn table_examples() {
     let mut tally = TableTally::default();
-    for example in TABLES.iter().chain(EXPERIMENTS).chain(WHOLE_NUMBERS) {
+    let examples = TABLES.iter().chain(EXPERIMENTS).chain(WHOLE_NUMBERS).chain(COMBINED);
+    for example in examples {
         let mut product = LentTable::empty();
         let mut trio = Trio::default();
         for step in example.steps {
@@ -48,10 +49,11 @@ fn table_examples() {
         trio.compare_all_ports(&mut tally);
     }
     println!("{tally}");
-    tally.expect_offered([0, 1, 4, 5, 6, 7, 10, 11, 12, 14, 15, 16], 1);
-    tally.expect_handed_out([0, 1, 2, 3, 4, 5, 6, 7, 11, 14, 16, 17, 18], 1);
+    tally.expect_offered([0, 1, 4, 5, 6, 7, 10, 11, 12, 14, 15, 16, 17, 20, 21], 1);
+    tally.expect_handed_out([0, 1, 2, 3, 4, 5, 6, 7, 11, 14, 16, 17, 18, 20, 21], 1);
     tally.expect_ports(1);
     tally.expect_experiments(1);
+    tally.expect_combined(1);
 }
 
 fn attach(port: u64) -> Vec<u8> {
@@ -182,10 +184,28 @@ fn cells_of_a_record() {
         0xFEFF_0310,
     ]);
     first[28] = 0x0302_0001;
+    // The list of the fourth, and the one that was taken over before it.
+    let messages = [
+        (Way::Up, "0F 00 04 C8 01 25 00 00 00 00 10 00 00 00 10"),
+        (Way::Down, "09 00 42 C8 01 07 10 FF 00"),
+        (Way::Up, "07 00 48 C8 80 05 00"),
+        (
+            Way::Down,
+            "16 00 42 C8 01 07 00 01 02 03 04 05 06 07 08 09 0A 0B 0C 0D 0E 0F",
+        ),
+    ];
+    for (index, (way, message)) in messages.into_iter().enumerate() {
+        let experiment = 0xBCD0 + index as u16;
+        assert_eq!(product.offer(way, &bytes(message), experiment), 0, "{message}");
+    }
+    let mut fourth = [0; RECORD_CELLS];
+    fourth[..13].copy_from_slice(&[1, 0xC8, 0x25, 0, 0, 1, 17, 0, 0, 0xBCD3, 17, 5, 0]);
+    fourth[29..46].copy_from_slice(&[16, 0, 1, 2, 3, 4, 5, 6, 7, 8, 9, 10, 11, 12, 13, 14, 15]);
+    fourth[46..50].copy_from_slice(&[3, 0x10, 0xFF, 0]);
     let mut second = [0; RECORD_CELLS];
     second[..4].copy_from_slice(&[2, 7, 0x5678, 0x80]);
     let mut third = [0; RECORD_CELLS];
     third[..5].copy_from_slice(&[3, 0x80, 0x9ABC, 0xFE, 7]);
     let records: Vec<&[u32]> = product.cells().chunks_exact(RECORD_CELLS).collect();
-    assert_eq!(records[..3], [first, second, third]);
+    assert_eq!(records[..4], [first, second, third, fourth]);
 }

@@ -4,6 +4,9 @@ use differential::LentTable;
 use yardstick::traffic::{Scene, Traffic};
 use yardstick::{decode, Form, Table, RECORD_CELLS};
 
+/// What asks a port for something: a 41, and a 42 with sub command 1.
+const ASKINGS: [Form; 2] = [Form::InputFormatSetup, Form::ModeDatasets];
+
 /// Numbers that a message may come with.
 const NUMBERS: [u16; 5] = [0, 1, 0x0100, 0x0102, u16::MAX];
 
@@ -24,7 +27,7 @@ fn only_an_accepted_asking_leaves_its_number() {
             let _ = table.offer(way, &message, experiment);
             let mut after = product.clone();
             let answer = after.offer(way, &message, experiment);
-            let is_asking = decode(way, &message).is_ok_and(|it| it.form == Form::InputFormatSetup);
+            let is_asking = decode(way, &message).is_ok_and(|it| ASKINGS.contains(&it.form));
             for number in NUMBERS {
                 let mut other = product.clone();
                 let name = format!("{message:02X?} {way:?} with {number}");

@@ -6,7 +6,7 @@ use differential::{
     castanetash_values, dataset_cells, format_cells, number, offer_answer, port_cells, refused, values_cells, Lent,
     BAD_ROW, DATASET_CELLS, FORMAT_CELLS, PORT_CELLS,
 };
-use yardstick::examples::{bytes, SOUND};
+use yardstick::examples::{bytes, SoundExample, COMBINED_SOUND, SOUND};
 use yardstick::{Table, TableCells, Way, RECORD_CELLS};
 
 /// Makes a call with fewer, as many and more cells than it fills. It has to give the answer and change nothing else.
@@ -76,16 +76,56 @@ fn only_the_first_cells_change() {
         "05 00 45 FF 01",
         "07 00 45 04 07 08 FD",
     ];
+    // Ports 2 and 4, at places 8 and 10, are in mode 0, which now has one dataset of 8 bits, and three.
+    let formats = [(8, 0, 1), (10, 0, 3)];
+    let calls = expect_first_cells(SOUND, &formats, &[0, 1, 2, 3, 16, 200, 255], &messages);
+    println!("{calls} calls of each length");
+    assert!(calls >= 3000);
+}
+
+/// The same of tables with lists.
+#[test]
+fn only_the_first_cells_change_with_lists() {
+    let messages = [
+        "03 00 12",
+        "06 00 46 01 01 00",
+        "05 00 45 01 07",
+        "07 00 46 00 01 00 80",
+        "07 00 46 01 01 00 80",
+        "08 00 46 01 01 00 80 00",
+        "09 00 46 01 03 00 80 FE FF",
+        "08 00 46 03 02 00 FE FF",
+        "07 00 46 02 02 00 80",
+        "07 00 48 06 00 01 00",
+    ];
+    // Ports 1 and 3, at these places, have one dataset of 8 bits in mode 1, and two of 16 bits in mode 2.
+    let formats = [(1, 1, 0x0001), (1, 2, 0x0102), (3, 1, 0x0001), (3, 2, 0x0102)];
+    let calls = expect_first_cells(COMBINED_SOUND, &formats, &[0, 1, 3, 5, 8, 10, 15], &messages);
+    println!("{calls} calls of each length, with lists");
+    assert!(calls >= 3000);
+}
+
+/// Makes every call on the examples, with these formats by place, mode and cell. Gives how many calls of each length
+/// there were.
+fn expect_first_cells(
+    examples: &[SoundExample],
+    formats: &[(usize, usize, u32)],
+    ports: &[u8],
+    messages: &[&str],
+) -> u64 {
+    /// The cell of a record that has the format of mode 0.
+    const FORMATS: usize = 13;
     let mut calls = 0;
-    for example in SOUND {
+    for example in examples {
         let mut cells = example.cells();
-        // Ports 2 and 4, at places 8 and 10, are in mode 0, which now has one dataset of 8 bits, and three.
-        cells[8 * RECORD_CELLS + 13] = 1;
-        cells[10 * RECORD_CELLS + 13] = 3;
+        for (place, mode, format) in formats {
+            cells[place * RECORD_CELLS + FORMATS + mode] = *format;
+        }
+        let unchanged = cells;
         let table = Table::from_cells(&cells);
         let table = table.as_ref().map_err(|&refusal| refusal);
         assert_eq!(table.is_ok(), example.is_sound, "{}", example.name);
-        for port in [0, 1, 2, 3, 16, 200, 255] {
+        for &port in ports {
             let name = format!("{}, port {port}", example.name);
             let answer = port_cells(table.map(|table| table.port(port)));
             let answer = answer.as_ref().map(|cells| &cells[..]).map_err(|&it| it);
@@ -125,13 +165,9 @@ fn only_the_first_cells_change() {
         let answer = table.map(|_| &ports[..]).map_err(refused);
         expect_ports(example.name, answer, |ports| castanetash_ports(&mut cells, ports));
         calls += 1;
-        let mut unchanged = example.cells();
-        unchanged[8 * RECORD_CELLS + 13] = 1;
-        unchanged[10 * RECORD_CELLS + 13] = 3;
         assert_eq!(cells, unchanged, "{}", example.name);
     }
-    println!("{calls} calls of each length");
-    assert!(calls >= 3000);
+    calls
 }
 
 /// A sound table in which port 11, at place 14, is in mode 0, which has one dataset of 8 bits.

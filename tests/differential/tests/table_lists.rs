@@ -4,7 +4,7 @@
 use differential::{plausible, Random, TableTally, Trio};
 use yardstick::examples::bytes;
 use yardstick::traffic::{experiment, Scene, Traffic};
-use yardstick::Way;
+use yardstick::{Answered, Table, Way};
 
 /// The scene and the seed of each of `count` lists.
 fn lists(first_seed: u64, count: u64) -> impl Iterator<Item = (u64, Scene)> {
@@ -14,14 +14,28 @@ fn lists(first_seed: u64, count: u64) -> impl Iterator<Item = (u64, Scene)> {
 /// Hands out all datasets of a message, and some of them: the first, one of any number, the last one and the one after
 /// it.
 fn hand_out_some(trio: &mut Trio, tally: &mut TableTally, random: &mut Random, way: Way, message: &[u8]) {
-    let port = message.get(3).copied().unwrap_or(0);
-    let mode = trio.table().port(port).and_then(|it| it.answered).map(|it| it.mode);
-    let format = mode.and_then(|mode| trio.table().format(port, mode));
-    let datasets = format.map_or(1, |format| usize::from(format.datasets));
+    let datasets = datasets_of(trio.table(), message).max(1);
     for number in [0, random.below(18), datasets - 1, datasets] {
         trio.hand_out(tally, way, message, number);
     }
     trio.hand_out_all(tally, way, message);
+}
+
+/// How many datasets a value has: those of its port's format, or one for each pointer.
+fn datasets_of(table: &Table, message: &[u8]) -> usize {
+    let [_, _, message_type, port, rest @ ..] = message else {
+        return 0;
+    };
+    match (table.port(*port).and_then(|it| it.answered), message_type, rest) {
+        (Some(Answered::Single(setup)), _, _) => {
+            let format = table.format(*port, setup.mode);
+            format.map_or(0, |format| usize::from(format.datasets))
+        }
+        (Some(Answered::Combined { .. }), 0x46, [low, high, ..]) => {
+            u16::from_le_bytes([*low, *high]).count_ones() as usize
+        }
+        _ => 0,
+    }
 }
 
 /// Short lists, with all ports compared after every message.
@@ -41,9 +55,9 @@ fn short_lists() {
     }
     println!("short lists: {tally}");
     tally.expect_offered([0], 1000);
-    tally.expect_offered((10..=16).chain([22]), 30);
-    tally.expect_handed_out((10..=18).chain([22]), 30);
-    tally.expect_whole((10..=18).chain([22]).filter(|&number| number != 13), 20);
+    tally.expect_offered((10..=16).chain(20..=22), 30);
+    tally.expect_handed_out((10..=18).chain(20..=22), 30);
+    tally.expect_whole((10..=18).chain(20..=22).filter(|&number| number != 13), 20);
     tally.expect_signs(100);
     tally.expect_ports(500);
     tally.expect_experiments(20);
@@ -73,17 +87,19 @@ fn long_lists() {
     println!("long lists: {tally}");
     tally.expect_offered([0], 20_000);
     tally.expect_offered(2..=7, 50);
-    tally.expect_offered((10..=16).chain([22]), 500);
+    tally.expect_offered((10..=16).chain(20..=22), 500);
+    tally.expect_offered([17], 50);
     tally.expect_handed_out([0], 20_000);
     tally.expect_handed_out(2..=7, 50);
     tally.expect_handed_out(10..=18, 1000);
-    tally.expect_handed_out([22], 500);
-    tally.expect_whole([0, 10, 14, 15, 16, 18], 500);
+    tally.expect_handed_out(20..=22, 500);
+    tally.expect_whole([0, 10, 14, 15, 16, 18, 20, 21], 500);
     tally.expect_every_number_of_datasets(20);
     tally.expect_lists_of_ports(0..=16, 100);
     tally.expect_signs(5000);
     tally.expect_ports(5000);
     tally.expect_experiments(500);
+    tally.expect_combined(50);
 }
 
 /// Lists in which ports are asked again and again, with other numbers each time, and are pulled and attached again. All
@@ -134,9 +150,9 @@ fn unguided_lists() {
     tally.expect_whole([2, 3, 4, 5, 6, 7, 10, 17], 50);
 }
 
-/// Messages about three ports: the third may be virtual and is driven, and the first is set up. Each has an experiment
-/// number of its own, and the same 41 comes with two.
-const FEW: [(Way, &str, u16); 17] = [
+/// Messages about three ports: the third may be virtual and is driven, and the first is set up and combined. Each has an
+/// experiment number of its own, and the same 41 comes with two.
+const FEW: [(Way, &str, u16); 19] = [
     (Way::Up, "0F 00 04 00 01 26 00 00 00 00 10 00 00 00 10", 1),
     (Way::Up, "0F 00 04 01 01 27 00 00 00 00 10 00 00 00 10", 2),
     (Way::Up, "0F 00 04 02 01 28 00 00 00 00 10 00 00 00 10", 3),
@@ -154,6 +170,8 @@ const FEW: [(Way, &str, u16); 17] = [
     (Way::Up, "05 00 45 00 07", 13),
     (Way::Down, "0E 00 81 02 11 14 00 00 00 00 FD FF FF FF", 14),
     (Way::Up, "07 00 82 02 0A 00 01", 15),
+    (Way::Down, "07 00 42 00 01 00 10", 16),
+    (Way::Up, "07 00 48 00 00 01 00", 17),
 ];
 
 /// Offers every list of up to `length` of the messages, after those that were offered before.
@@ -184,6 +202,6 @@ fn every_short_list() {
     every_list(&trio, &mut tally, &messages, 4);
     println!("every short list: {tally}");
     tally.expect_offered([0, 10, 11, 12], 1000);
-    tally.expect_offered([14, 15, 22], 300);
+    tally.expect_offered([14, 15, 21, 22], 300);
     tally.expect_ports(1000);
 }

@@ -49,15 +49,23 @@ fn wrong_sizes() -> Vec<(Way, Vec<u8>, u64)> {
     wrong
 }
 
-/// The first byte of feedback that is outside its list, in a message of a right size.
-fn bad_feedback(message: &[u8]) -> Option<u64> {
-    let is_bad = |&place: &usize| message[2] == 0x82 && message[place] > 31;
-    let mut places = (4..message.len()).step_by(2);
-    places.find(is_bad).map(|place| refused(Refusal::field(place)))
+/// The first byte of feedback that is outside its list, and the first entry that stood in its list before, in a message
+/// of a right size.
+fn bad_open_byte(message: &[u8]) -> Option<u64> {
+    let is_feedback = |place| place % 2 == 0;
+    let is_bad = |&place: &usize| match (message[2], message.get(4)) {
+        (0x82, _) => place >= 4 && is_feedback(place) && message[place] > 31,
+        (0x42, Some(1)) => place >= 6 && message[6..place].contains(&message[place]),
+        _ => false,
+    };
+    (0..message.len())
+        .find(is_bad)
+        .map(|place| refused(Refusal::field(place)))
 }
 
 /// Every form in every size from 0 to 128. Where the size is right, the message is: the filling is then of open bytes
-/// or of the entries of a list. But for feedback one of the fillings is outside its list.
+/// or of the combinations of a 43. But for feedback one of the fillings is outside its list, and two entries of a list
+/// are never the same.
 #[test]
 fn reading_every_form_in_every_size() {
     let mut tally = Tally::default();
@@ -70,7 +78,7 @@ fn reading_every_form_in_every_size() {
                     0 => Some(refused(Refusal::NO_BYTE)),
                     1..HEADER => Some(refused(Refusal::LENGTH)),
                     TOO_LONG => Some(refused(Refusal::LENGTH_BIT)),
-                    _ if has_right_size(way, &message) => bad_feedback(&message),
+                    _ if has_right_size(way, &message) => bad_open_byte(&message),
                     _ => Some(wrong_size(wanted_size(way, &message))),
                 };
                 let name = format!("{message:02X?} {way:?}");
@@ -102,7 +110,7 @@ fn reading_selectors_that_do_not_fit() {
     for (message_type, holding) in SELECTOR_SIZES {
         let ways: &[Way] = match message_type {
             0x01..=0x03 => &Way::BOTH,
-            0x61 | 0x81 => &[Way::Down],
+            0x42 | 0x61 | 0x81 => &[Way::Down],
             _ => &[Way::Up],
         };
         for &way in ways {
@@ -118,9 +126,9 @@ fn reading_selectors_that_do_not_fit() {
         }
     }
     println!("selectors that don't fit: {tally}");
-    // 01 and 03 both ways, and 04 and 43 up: none or one byte of two. 02 both ways, and 61 down: none of one. 44 up and
-    // 81 down: none, one or two of three.
-    assert_eq!(tally.messages(), 6 * (1 + 256) + 3 + 2 * (1 + 256 + 65_536));
+    // 01 and 03 both ways, 42 down, and 04 and 43 up: none or one byte of two. 02 both ways, and 61 down: none of one.
+    // 44 up and 81 down: none, one or two of three.
+    assert_eq!(tally.messages(), 7 * (1 + 256) + 3 + 2 * (1 + 256 + 65_536));
     tally.expect_refusals([WRONG_SIZE], tally.messages());
 }
 
@@ -202,15 +210,24 @@ fn may_have_open(call: &Call, open: usize) -> bool {
         (Form::ModeText, _) => (1..=5).contains(&open),
         (Form::PortValue, _) => (1..=123).contains(&open),
         (Form::OutputFeedback, _) => (1..=62).any(|pairs| open == 2 * pairs),
+        (Form::ModeDatasets, _) => (1..=16).contains(&open),
+        (Form::PortValueCombined, _) => (1..=121).contains(&open),
         _ => open == 0,
     }
+}
+
+/// So many open bytes. Each is feedback too, and no two of the first sixteen are the same.
+fn open_bytes(count: usize) -> Vec<u8> {
+    (0..count).map(|index| index as u8 % 32).collect()
 }
 
 /// The length of what is written of a valid call with so many open bytes, by hand.
 fn length(call: &Call, open: usize) -> usize {
     match call.form {
         // With the smallest size goes one open byte.
-        Form::PropertyText | Form::ModeText | Form::PortValue => smallest_size(call.form) - 1 + open,
+        Form::PropertyText | Form::ModeText | Form::PortValue | Form::ModeDatasets | Form::PortValueCombined => {
+            smallest_size(call.form) - 1 + open
+        }
         // Or two.
         Form::OutputFeedback => smallest_size(call.form) - 2 + open,
         // And one entry.
@@ -237,8 +254,7 @@ fn writing_every_form_with_every_number_of_open_bytes() {
                     Ok(written) => written,
                     Err(refusal) => refusal,
                 };
-                // Each is feedback too.
-                let answer = tally.compare_row(call.way, &call.row(), &vec![0x1F; open], output);
+                let answer = tally.compare_row(call.way, &call.row(), &open_bytes(open), output);
                 assert_eq!(answer, by_hand, "{call:?}, {open} open bytes, {output} bytes of output");
             }
         }

@@ -74,8 +74,8 @@ fn fewer_cells_are_no_row_and_more_are_not_looked_at() {
 
 #[test]
 fn other_forms_are_no_message() {
-    let numbers = (39..=600).chain([0, 1 << 16, u32::MAX.into(), u64::MAX]);
-    let wide = (1..=38).flat_map(|form| [8, 16, 32, 63].map(|bit| 1 << bit | form));
+    let numbers = (43..=600).chain([0, 1 << 16, u32::MAX.into(), u64::MAX]);
+    let wide = (1..=42).flat_map(|form| [8, 16, 32, 63].map(|bit| 1 << bit | form));
     for form in numbers.chain(wide) {
         for way in [0, 1] {
             // Values of zeros, which are those of more than one form.

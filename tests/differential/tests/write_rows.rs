@@ -98,6 +98,10 @@ fn answers_to_wide_values(call: &Call) -> Vec<u64> {
         }
         Form::PresetEncoders => vec![WIDE, seven(4), seven(5), WIDE, WIDE],
         Form::OutputFeedback => vec![],
+        Form::CombinedSetup => vec![WIDE, seven(4)],
+        Form::ModeDatasets => vec![WIDE, seven(4), WIDE],
+        Form::PortValueCombined => vec![WIDE, WIDE],
+        Form::InputFormatCombined => vec![WIDE, WIDE, WIDE],
     }
 }
 

@@ -46,8 +46,13 @@ fn every_length_of_open_bytes() {
     tally.expect_forms([8], 1);
     // Every length, with three outputs.
     tally.expect_forms([READ_ONLY], (301 + beyond.len() as u64) * 3);
-    // Texts of 1 to 14 and of 1 to 122 bytes, names of 1 to 11, symbols of 1 to 5 and values of 1 to 123.
-    tally.expect_numbers([0], 2 * (14 + 122 + 11 + 5 + 123));
+    // Texts of 1 to 14 and of 1 to 122 bytes, names of 1 to 11, symbols of 1 to 5, values of 1 to 123, combined ones of
+    // 1 to 121.
+    tally.expect_numbers([0], 2 * (14 + 122 + 11 + 5 + 123 + 121));
+    // Three examples and the longest one, with two outputs that have room.
+    assert_eq!(tally.seen_for(Form::PortValueCombined, 0), 4 * 121 * 2);
+    // Three examples. None of the first sixteen bytes is there twice.
+    assert_eq!(tally.seen_for(Form::ModeDatasets, 0), 3 * 16 * 2);
     // Three examples and the longest one, with 1 to 62 pairs and two outputs that have room.
     assert_eq!(tally.seen_for(Form::OutputFeedback, 0), 4 * 62 * 2);
 }

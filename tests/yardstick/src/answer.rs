@@ -1,6 +1,8 @@
 //! What can be asked of a port. This is plain data without any rule: the table and the reader without a table both
 //! answer in it, so that they can be compared.
 
+use std::fmt;
+
 /// A setup of a port, by a 41 or a 47.
 #[derive(Clone, Copy, Debug, PartialEq, Eq)]
 pub struct Setup {
@@ -25,17 +27,90 @@ pub struct Format {
     pub decimals: u8,
 }
 
-/// How a port's answered setup stands to its asked one. The discriminant is the state's number.
+/// A list of modes and datasets, as a 42 with sub command 1 has it.
+#[derive(Clone, Copy, PartialEq, Eq)]
+pub struct List {
+    /// Those past the count are 0.
+    entries: [u8; List::MOST],
+    count: u8,
+}
+
+impl List {
+    /// The most entries that a list has.
+    pub const MOST: usize = 16;
+
+    /// The list of these entries, at most sixteen: in each the mode in the high half, the dataset in the low.
+    pub const fn new(entries: &[u8]) -> List {
+        let mut list = List {
+            entries: [0; List::MOST],
+            count: entries.len() as u8,
+        };
+        let mut index = 0;
+        while index < entries.len() {
+            list.entries[index] = entries[index];
+            index += 1;
+        }
+        list
+    }
+
+    /// Its entries.
+    pub fn entries(&self) -> &[u8] {
+        &self.entries[..usize::from(self.count)]
+    }
+}
+
+impl fmt::Debug for List {
+    fn fmt(&self, f: &mut fmt::Formatter) -> fmt::Result {
+        write!(f, "List({:02X?})", self.entries())
+    }
+}
+
+/// What a port was last asked for.
+#[derive(Clone, Copy, Debug, PartialEq, Eq)]
+pub enum Asked {
+    /// A mode, by a 41.
+    Single(Setup),
+    /// The list that it keeps, by a 42 with sub command 1.
+    List,
+}
+
+/// What a port last answered.
+#[derive(Clone, Copy, Debug, PartialEq, Eq)]
+pub enum Answered {
+    /// A mode, by a 47.
+    Single(Setup),
+    /// Pointers into the list that it took over, by a 48.
+    Combined {
+        /// A bit an entry, the lowest for the first.
+        pointers: u16,
+        /// That list.
+        list: List,
+    },
+}
+
+impl Answered {
+    /// The mode that the port is in. A combined port has a list in its place.
+    pub fn mode(&self) -> Option<u8> {
+        match self {
+            Answered::Single(setup) => Some(setup.mode),
+            Answered::Combined { .. } => None,
+        }
+    }
+}
+
+/// How a port's latest answer, a 47 or a 48, stands to its latest asking, a 41 or a list. The discriminant is the
+/// state's number.
 #[derive(Clone, Copy, Debug, PartialEq, Eq)]
 #[repr(u8)]
 pub enum State {
     /// Nothing asked.
     NothingAsked = 0,
-    /// Asked, no 47 since.
+    /// Asked, no answer since.
     Unanswered = 1,
-    /// The latest 47 came after the latest 41, with equal mode, delta and notify.
+    /// The latest answer came after the latest asking: a 47 to a 41 with equal mode, delta and notify, or a 48 to a list
+    /// whose pointers name the whole list and no more.
     AsAsked = 2,
-    /// The latest 47 came after the latest 41, and differs.
+    /// The latest answer came after the latest asking, and differs.
     Otherwise = 3,
 }
 
@@ -74,12 +149,14 @@ pub struct Port {
     pub wiring: Wiring,
     /// Its state.
     pub state: State,
-    /// The setup last asked, by a 41.
-    pub asked: Option<Setup>,
-    /// The number of the experiment that asked it, 0 before any 41.
+    /// What was last asked.
+    pub asked: Option<Asked>,
+    /// The number of the experiment that asked it, 0 before any asking.
     pub experiment: u16,
-    /// The setup last answered, by a 47.
-    pub answered: Option<Setup>,
+    /// The list that was last asked for. A 41 after it doesn't matter.
+    pub list: Option<List>,
+    /// What was last answered.
+    pub answered: Option<Answered>,
 }
 
 /// What a dataset says.
@@ -96,7 +173,7 @@ pub enum Value {
 pub struct Dataset {
     /// The port that sent it.
     pub port: u8,
-    /// The port's mode.
+    /// The port's mode or, of a combined port, the mode of the dataset's entry.
     pub mode: u8,
     /// The port's state.
     pub state: State,

@@ -8,8 +8,8 @@ use crate::values::Values;
 pub struct Decoded {
     /// Its form.
     pub form: Form,
-    /// Where its open bytes are: a name, a symbol, a text, value bytes or
-    /// pairs of port and feedback. 0 to 0 for a form without them.
+    /// Where its open bytes are: a name, a symbol, a text, value bytes, pairs of port and feedback or the entries of a
+    /// list. 0 to 0 for a form without them.
     pub open: Range<usize>,
     pub(crate) values: Values,
 }

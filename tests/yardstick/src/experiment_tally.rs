@@ -5,9 +5,6 @@ use crate::answer::{Dataset, State};
 use crate::refusal::Refusal;
 use crate::table::Table;
 
-/// The type of an asking.
-const ASKING: u8 = 0x41;
-
 /// A message that was offered, with the tables before and after it.
 pub struct Offered<'a> {
     /// The table before it.
@@ -23,8 +20,9 @@ pub struct Offered<'a> {
 }
 
 impl Offered<'_> {
+    /// Whether it is a 41, or a 42 with sub command 1.
     fn is_asking(&self) -> bool {
-        self.message.get(2) == Some(&ASKING)
+        matches!(self.message, [_, _, 0x41, ..] | [_, _, 0x42, _, 1, ..])
     }
 
     /// The number of the port that the message names, none if it isn't present or was asked nothing.

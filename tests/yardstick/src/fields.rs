@@ -155,6 +155,11 @@ impl<'a> Fields<'a> {
         }
     }
 
+    /// The bytes that weren't taken yet.
+    pub(crate) fn rest(&self) -> &'a [u8] {
+        &self.message[self.place..]
+    }
+
     /// Keeps a value that isn't a field of the message but follows from it.
     pub(crate) fn derived(&mut self, value: impl Into<u64>) {
         self.values.push(value);

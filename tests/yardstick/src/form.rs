@@ -78,11 +78,19 @@ pub enum Form {
     PresetEncoders = 37,
     /// 82.
     OutputFeedback = 38,
+    /// 42, sub commands 2, 3, 4 and 6.
+    CombinedSetup = 39,
+    /// 42, sub command 1.
+    ModeDatasets = 40,
+    /// 46.
+    PortValueCombined = 41,
+    /// 48.
+    InputFormatCombined = 42,
 }
 
 impl Form {
     /// How many forms there are; their numbers run from 1 to this one.
-    pub const COUNT: usize = Form::OutputFeedback as usize;
+    pub const COUNT: usize = Form::InputFormatCombined as usize;
 
     /// Every form, in the order of their numbers.
     pub const ALL: [Form; Form::COUNT] = [
@@ -124,6 +132,10 @@ impl Form {
         Form::GotoAbsolutePositions,
         Form::PresetEncoders,
         Form::OutputFeedback,
+        Form::CombinedSetup,
+        Form::ModeDatasets,
+        Form::PortValueCombined,
+        Form::InputFormatCombined,
     ];
 
     /// The form's number.

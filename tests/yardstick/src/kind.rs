@@ -117,6 +117,10 @@ impl Form {
             ],
             Form::PresetEncoders => &[Byte, Byte, Fixed(0x14), SignedFourBytes, SignedFourBytes],
             Form::OutputFeedback => &[],
+            Form::CombinedSetup => &[Byte, Byte],
+            Form::ModeDatasets => &[Byte, Fixed(1), Byte],
+            Form::PortValueCombined => &[Byte, TwoBytes],
+            Form::InputFormatCombined => &[Byte, Byte, TwoBytes],
         }
     }
 }

@@ -6,6 +6,8 @@
 //! [`make_log`] make messages and logs to try them with.
 
 mod answer;
+mod combined;
+mod combined_tally;
 mod decode;
 mod decoded;
 mod encode;
@@ -34,18 +36,19 @@ pub mod traffic;
 mod values;
 mod way;
 
-pub use answer::{Dataset, Format, Port, Setup, State, Value, Wiring};
+pub use answer::{Answered, Asked, Dataset, Format, List, Port, Setup, State, Value, Wiring};
+pub use combined_tally::CombinedTally;
 pub use decode::decode;
 pub use decoded::Decoded;
 pub use encode::{encode, encode_to};
 pub use experiment_tally::{ExperimentTally, Offered};
 pub use form::Form;
 pub use kind::Kind;
-pub use log::{log_message, log_record, read_block, read_log, LINE_ROOM, LOG_RECORD};
+pub use log::{log_lines, log_message, log_record, read_block, read_log, LineValue, LogLine, LINE_ROOM, LOG_RECORD};
 pub use message::Message;
 pub use random::Random;
 pub use refusal::Refusal;
 pub use row::{write_row, Row, ROW_CELLS};
-pub use table::{PortValue, Step, Table, TableCells, PLACES, RECORD_CELLS, TABLE_CELLS};
+pub use table::{CombinedValue, PortValue, Step, Table, TableCells, PLACES, RECORD_CELLS, TABLE_CELLS};
 pub use tableless::MessageList;
 pub use way::Way;

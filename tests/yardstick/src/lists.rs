@@ -184,6 +184,19 @@ pub(crate) fn is_profile(profile: u8) -> bool {
     profile <= 3
 }
 
+/// The sub commands of a combined setup: 1 sets the list, 2 to 4 and 6 lock, start and reset the device.
+pub(crate) fn is_combined_sub(sub: u8) -> bool {
+    matches!(sub, 1..=4 | 6)
+}
+
+/// How many entries a list has.
+pub(crate) const ENTRIES: RangeInclusive<usize> = 1..=16;
+
+/// The index of the first entry that stood in the list before.
+pub(crate) fn first_repeat(entries: &[u8]) -> Option<usize> {
+    (0..entries.len()).find(|&index| entries[..index].contains(&entries[index]))
+}
+
 /// Five bits of feedback.
 pub(crate) fn is_feedback(feedback: u8) -> bool {
     feedback <= 0x1F

@@ -32,11 +32,11 @@ impl Refusal {
     pub const PAIR: Refusal = Refusal::new(12, 0);
     /// All sixteen records are in use.
     pub const FULL: Refusal = Refusal::new(13, 0);
-    /// The port has no mode yet.
+    /// The port has no mode: none yet, or a list in its place.
     pub const NO_MODE: Refusal = Refusal::new(14, 0);
     /// That mode has no format yet.
     pub const NO_FORMAT: Refusal = Refusal::new(15, 0);
-    /// Value bytes differ from datasets times width.
+    /// Value bytes differ from datasets times width, or from the summed widths of a list's entries.
     pub const VALUE_SIZE: Refusal = Refusal::new(16, 0);
     /// No dataset of that number.
     pub const NO_DATASET: Refusal = Refusal::new(17, 0);
@@ -44,6 +44,10 @@ impl Refusal {
     pub const NOT_FINITE: Refusal = Refusal::new(18, 0);
     /// A log record is malformed.
     pub const LOG_RECORD: Refusal = Refusal::new(19, 0);
+    /// A combined value names a port that isn't combined.
+    pub const NOT_COMBINED: Refusal = Refusal::new(20, 0);
+    /// A pointer outside the list or the latest 48, or no pointer, or no list.
+    pub const POINTERS: Refusal = Refusal::new(21, 0);
     /// A command for two motors names a port that isn't virtual.
     pub const NOT_VIRTUAL: Refusal = Refusal::new(22, 0);
     /// The type is one that is read and no longer written.

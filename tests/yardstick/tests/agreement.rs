@@ -3,7 +3,7 @@
 use std::collections::BTreeSet;
 
 use yardstick::traffic::{Scene, Traffic};
-use yardstick::{ExperimentTally, MessageList, Offered, Refusal, Table, Value, Way};
+use yardstick::{CombinedTally, ExperimentTally, MessageList, Offered, Refusal, Table, Value, Way};
 
 /// A list followed by both, with counts of the answers.
 #[derive(Default)]
@@ -17,6 +17,9 @@ struct Both {
     experiments: ExperimentTally,
     /// The ports of this list that went with an experiment number.
     gone: BTreeSet<u8>,
+    combined: CombinedTally,
+    /// Those that went while they were combined.
+    combined_gone: BTreeSet<u8>,
 }
 
 impl Both {
@@ -24,6 +27,7 @@ impl Both {
         self.table = Table::default();
         self.list = MessageList::default();
         self.gone.clear();
+        self.combined_gone.clear();
     }
 
     fn count<T>(&mut self, answer: Result<T, Refusal>) {
@@ -81,6 +85,7 @@ impl Both {
             answer,
         };
         self.experiments.count_offered(&mut self.gone, &offered);
+        self.combined.count(&mut self.combined_gone, &offered);
     }
 
     fn compare_ports(&self, ports: impl Iterator<Item = u8>) {
@@ -98,10 +103,10 @@ impl Both {
 
     fn expect_often(&self, name: &str, least: u64) {
         println!(
-            "{name}: {:?}, {} negative datasets\nexperiments: {}",
-            self.numbers, self.negative, self.experiments
+            "{name}: {:?}, {} negative datasets\nexperiments: {}\ncombined ports: {}",
+            self.numbers, self.negative, self.experiments, self.combined
         );
-        for number in (10..=18).chain([22]) {
+        for number in (10..=18).chain(20..=22) {
             let seen = self.numbers[number];
             assert!(seen >= least, "{number} came {seen} times, not {least}");
         }
@@ -116,7 +121,7 @@ impl Both {
 #[test]
 fn short_lists() {
     let mut both = Both::default();
-    for seed in 0..400 {
+    for seed in 0..480 {
         both.start();
         let mut traffic = Traffic::new(seed, Scene::ALL[seed as usize % Scene::ALL.len()]);
         for _ in 0..60 {
@@ -127,12 +132,13 @@ fn short_lists() {
     }
     both.expect_often("short lists", 100);
     both.experiments.expect(100);
+    both.combined.expect(5);
 }
 
 #[test]
 fn long_lists() {
     let mut both = Both::default();
-    for seed in 1000..1040 {
+    for seed in 1000..1048 {
         both.start();
         let mut traffic = Traffic::new(seed, Scene::ALL[seed as usize % Scene::ALL.len()]);
         for step in 0..800 {
@@ -148,4 +154,25 @@ fn long_lists() {
     }
     both.expect_often("long lists", 1000);
     both.experiments.expect(300);
+    both.combined.expect(30);
+}
+
+/// Lists about few ports that are combined, with everything compared after every message.
+#[test]
+fn combined_lists() {
+    let mut both = Both::default();
+    for seed in 2000..2120 {
+        both.start();
+        let mut traffic = Traffic::new(seed, Scene::Combined);
+        for _ in 0..150 {
+            let (way, message, experiment) = traffic.next(&both.table);
+            both.offer(way, &message, experiment);
+            let (way, message) = traffic.value(&both.table);
+            both.values(way, &message);
+            let present: Vec<u8> = both.table.ports().collect();
+            both.compare_ports(present.into_iter());
+        }
+    }
+    println!("combined lists: {}", both.combined);
+    both.combined.expect(100);
 }

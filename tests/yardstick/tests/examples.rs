@@ -140,7 +140,7 @@ fn rows_of_no_message() {
             assert_eq!(answer, Err(Refusal::ROW), "{form:?}, {length} cells");
         }
         let number = u64::from(form.number());
-        for wide in [0, 39, 256 + number, 1 << 32 | number, u64::MAX] {
+        for wide in [0, 43, 256 + number, 1 << 32 | number, u64::MAX] {
             let mut row = row;
             row[0] = wide;
             for way in Way::BOTH {

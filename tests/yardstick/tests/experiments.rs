@@ -2,7 +2,10 @@
 
 use yardstick::make_log::{bench_log, every_log, hour_log};
 use yardstick::traffic::{experiment, Scene, Traffic};
-use yardstick::{decode, read_log, Form, MessageList, Random, Table, LOG_RECORD};
+use yardstick::{decode, log_lines, read_log, Form, LogLine, MessageList, Random, Table, LOG_RECORD};
+
+/// What asks a port for something: a 41, and a 42 with sub command 1.
+const ASKINGS: [Form; 2] = [Form::InputFormatSetup, Form::ModeDatasets];
 
 /// Numbers that a message may come with.
 const NUMBERS: [u16; 5] = [0, 1, 0x0100, 0x0102, u16::MAX];
@@ -19,7 +22,7 @@ fn only_an_accepted_asking_leaves_its_number() {
             let (way, message, experiment) = traffic.next(&table);
             let mut after = table.clone();
             let answer = after.offer(way, &message, experiment);
-            let is_asking = decode(way, &message).is_ok_and(|it| it.form == Form::InputFormatSetup);
+            let is_asking = decode(way, &message).is_ok_and(|it| ASKINGS.contains(&it.form));
             for number in NUMBERS {
                 let mut other = table.clone();
                 assert_eq!(
@@ -56,7 +59,7 @@ fn only_an_accepted_asking_leaves_its_number_in_a_list() {
         let (mut table, mut list) = (Table::default(), MessageList::default());
         for _ in 0..100 {
             let (way, message, experiment) = traffic.next(&table);
-            let is_asking = decode(way, &message).is_ok_and(|it| it.form == Form::InputFormatSetup);
+            let is_asking = decode(way, &message).is_ok_and(|it| ASKINGS.contains(&it.form));
             let number = !experiment;
             let mut other = list.clone();
             let answer = list.push(way, &message, experiment);
@@ -86,14 +89,12 @@ fn only_an_accepted_asking_leaves_its_number_in_a_list() {
     assert!(asked >= 400 && others >= 2000 && refused >= 800);
 }
 
-/// What the log reader prints, as numbers, without the totals.
-fn lines(log: &[u8]) -> Vec<Vec<i64>> {
+/// What the log reader prints, without the totals.
+fn lines(log: &[u8]) -> Vec<LogLine> {
     let mut output = Vec::new();
     read_log(log, &mut output).expect("reading from memory");
     let text = String::from_utf8(output).expect("lines are text");
-    let numbers = |line: &str| line.split(' ').map(|it| it.parse().expect("a number")).collect();
-    let is_line = |line: &&str| !line.starts_with("total");
-    text.lines().filter(is_line).map(numbers).collect()
+    log_lines(log, &text)
 }
 
 /// The logs that are made.
@@ -119,10 +120,10 @@ fn a_log_without_numbers_prints_none() {
             record[6..8].fill(0);
         }
         let [mut lines, without] = [lines(&log), lines(&without)];
-        for line in lines.iter_mut().filter(|line| line.len() > 2) {
+        for value in lines.iter_mut().filter_map(|line| line.value.as_mut()) {
             values += 1;
-            with_number += u64::from(line[5] != 0);
-            line[5] = 0;
+            with_number += u64::from(value.experiment != 0);
+            value.experiment = 0;
         }
         assert!(lines == without, "lines differ in more than the number");
     }
@@ -143,13 +144,15 @@ fn numbers_change_values_in_state_2_alone() {
         let [lines, other] = [lines(&log), lines(&other)];
         assert_eq!(lines.len(), other.len());
         for (line, mut other) in lines.into_iter().zip(other) {
-            if line.len() > 2 && line[4] == 2 {
-                in_state_2 += 1;
-                changed += u64::from(line[5] != other[5]);
-                other[5] = line[5];
-            } else if line.len() > 2 {
-                others += 1;
-                assert_eq!(line[5], 0, "{line:?}");
+            if let (Some(value), Some(other)) = (&line.value, &mut other.value) {
+                if value.state == 2 {
+                    in_state_2 += 1;
+                    changed += u64::from(value.experiment != other.experiment);
+                    other.experiment = value.experiment;
+                } else {
+                    others += 1;
+                    assert_eq!(value.experiment, 0, "{line:?}");
+                }
             }
             assert_eq!(line, other);
         }

@@ -5,7 +5,7 @@ use std::fs;
 use std::path::{Path, PathBuf};
 
 use yardstick::make_log::{bench_log, every_log, hour_log};
-use yardstick::{decode, log_message, read_log, Form, Table, LOG_RECORD};
+use yardstick::{decode, log_lines, log_message, read_log, Form, LineValue, LogLine, Table, LOG_RECORD};
 
 fn bench(seed: u64, records: u64) -> Vec<u8> {
     let mut log = Vec::new();
@@ -39,16 +39,19 @@ fn printed(log: &[u8]) -> String {
     String::from_utf8(output).expect("lines are text")
 }
 
-/// The lines that the log reader prints, as numbers, without the totals.
-fn lines(log: &[u8]) -> Vec<Vec<i64>> {
+/// The lines that the log reader prints, without the totals, which have to be right.
+fn lines(log: &[u8]) -> Vec<LogLine> {
     let text = printed(log);
-    let mut lines: Vec<&str> = text.lines().collect();
-    let totals = lines.pop().expect("totals");
-    let numbers = |line: &&str| line.split(' ').map(|it| it.parse().expect("a number")).collect();
-    let lines: Vec<Vec<i64>> = lines.iter().map(numbers).collect();
-    let refused = lines.iter().filter(|line| line[1] != 0).count();
+    let totals = text.lines().last().expect("totals");
+    let lines = log_lines(log, &text);
+    let refused = lines.iter().filter(|line| line.refusal != 0).count();
     assert_eq!(totals, format!("total {} refused {refused}", lines.len()));
     lines
+}
+
+/// The values of lines.
+fn values(lines: &[LogLine]) -> impl Iterator<Item = &LineValue> + Clone {
+    lines.iter().filter_map(|line| line.value.as_ref())
 }
 
 #[test]
@@ -67,25 +70,29 @@ fn half_of_a_bench_log_is_accepted_values() {
     for (seed, records) in [(1, 1000), (2, 1000), (3, 2000), (4, 50_000), (5, 200_000)] {
         let lines = lines(&bench(seed, records));
         assert_eq!(lines.len() as u64, records);
-        let values = lines.iter().filter(|line| line.len() > 2).count();
-        assert!(values as u64 * 2 >= records, "{values} of {records} with seed {seed}");
+        // Those of a 45 have a mode.
+        let of_modes = values(&lines).filter(|value| value.mode.is_some()).count();
+        assert!(
+            of_modes as u64 * 2 >= records,
+            "{of_modes} of {records} with seed {seed}"
+        );
     }
 }
 
 #[test]
 fn a_bench_log_is_mixed() {
     let lines = lines(&bench(6, 200_000));
-    let values = lines.iter().filter(|line| line.len() > 2);
-    let ports: BTreeSet<i64> = values.clone().map(|line| line[2]).collect();
-    let modes: BTreeSet<[i64; 2]> = values.clone().map(|line| [line[2], line[3]]).collect();
-    let states: BTreeSet<i64> = values.clone().map(|line| line[4]).collect();
-    let experiments: BTreeSet<i64> = values.clone().map(|line| line[5]).collect();
-    let sizes: BTreeSet<usize> = values.clone().map(|line| line.len() - 6).collect();
-    let negative: BTreeSet<[i64; 2]> = values
-        .filter(|line| line[6..].iter().any(|&number| number < 0))
-        .map(|line| [line[2], line[3]])
+    let singles = values(&lines).filter(|value| value.mode.is_some());
+    let ports: BTreeSet<i64> = singles.clone().map(|value| value.port).collect();
+    let modes: BTreeSet<_> = singles.clone().map(|value| (value.port, value.mode)).collect();
+    let states: BTreeSet<i64> = singles.clone().map(|value| value.state).collect();
+    let experiments: BTreeSet<i64> = singles.clone().map(|value| value.experiment).collect();
+    let sizes: BTreeSet<usize> = singles.clone().map(|value| value.datasets.len()).collect();
+    let negative: BTreeSet<_> = singles
+        .filter(|value| value.datasets.iter().any(|&number| number < 0))
+        .map(|value| (value.port, value.mode))
         .collect();
-    let refusals: BTreeSet<i64> = lines.iter().map(|line| line[1]).filter(|&it| it != 0).collect();
+    let refusals: BTreeSet<i64> = lines.iter().map(|line| line.refusal).filter(|&it| it != 0).collect();
     println!("ports {ports:?}, modes {modes:?}, states {states:?}, datasets {sizes:?}, refusals {refusals:?}");
     println!("negative in modes {negative:?}");
     println!("{} experiments", experiments.len());
@@ -95,10 +102,31 @@ fn a_bench_log_is_mixed() {
     assert!(experiments.len() >= 50);
     assert!(sizes.is_superset(&[1, 2, 3, 4, 6].into()));
     // 32, 8 and 16 bits; both positions of a pair.
-    assert!(negative.is_superset(&[[0, 2], [0, 1], [0, 3], [16, 2]].into()));
-    assert!(refusals.is_superset(&[10, 14, 16, 22].into()));
-    let refused = lines.iter().filter(|line| line[1] != 0).count();
+    let modes_of_motors = [(0, Some(2)), (0, Some(1)), (0, Some(3)), (16, Some(2))];
+    assert!(negative.is_superset(&modes_of_motors.into()));
+    assert!(refusals.is_superset(&[10, 14, 16, 20, 22].into()));
+    let refused = lines.iter().filter(|line| line.refusal != 0).count();
     assert!(refused * 100 < lines.len(), "{refused} refused");
+}
+
+/// The colour sensor sends by lists at times, in every state, with one to five values.
+#[test]
+fn a_bench_log_has_combined_values() {
+    let lines = lines(&bench(6, 200_000));
+    let combined = values(&lines).filter(|value| value.pointers.is_some());
+    let states: BTreeSet<i64> = combined.clone().map(|value| value.state).collect();
+    let experiments: BTreeSet<i64> = combined.clone().map(|value| value.experiment).collect();
+    let sizes: BTreeSet<usize> = combined.clone().map(|value| value.datasets.len()).collect();
+    let pointers: BTreeSet<i64> = combined.clone().filter_map(|value| value.pointers).collect();
+    let count = combined.clone().count();
+    println!("{count} combined values, states {states:?}, values {sizes:?}, pointers {pointers:?}");
+    println!("{} experiments", experiments.len());
+    assert!(combined.clone().all(|value| value.port == 2));
+    assert!((2000..40_000).contains(&count));
+    assert_eq!(states, [1, 2, 3].into());
+    assert_eq!(sizes, [1, 2, 3, 4, 5].into());
+    assert_eq!(pointers, (1..=31).collect());
+    assert!(experiments.len() >= 10);
 }
 
 /// The forms of the messages that are accepted, those of lines refused as 18 among them.
@@ -118,20 +146,48 @@ fn forms(log: &[u8]) -> BTreeSet<u8> {
 
 #[test]
 fn every_form_and_refusal() {
-    let all: BTreeSet<i64> = [0, 1, 2, 3, 4, 5, 6, 7, 10, 11, 12, 13, 14, 15, 16, 18, 19, 22].into();
+    let all: BTreeSet<i64> = (0..=7).chain(10..=22).collect();
     for (seed, records) in [(1, 100), (2, 5000)] {
         let log = every(seed, records);
         let lines = lines(&log);
         assert_eq!(lines.len() as u64, records);
-        let refusals: BTreeSet<i64> = lines.iter().map(|line| line[1]).collect();
+        let refusals: BTreeSet<i64> = lines.iter().map(|line| line.refusal).collect();
         assert_eq!(refusals, all, "{records} records");
         assert_eq!(forms(&log).len(), Form::COUNT, "{records} records");
     }
     // The random part has them all on its own.
     let log = every(3, 30_000);
     let random_part = &lines(&log)[100..];
-    let refusals: BTreeSet<i64> = random_part.iter().map(|line| line[1]).collect();
+    let refusals: BTreeSet<i64> = random_part.iter().map(|line| line.refusal).collect();
     assert_eq!(refusals, all);
+}
+
+/// The messages of combined mode have every answer that they can get, at the start of the log too.
+#[test]
+fn every_answer_of_combined_mode() {
+    let wanted: [(u8, &[i64]); 3] = [
+        (0x42, &[0, 5, 6, 7, 10]),
+        (0x46, &[0, 5, 6, 10, 15, 16, 17, 18, 20, 21]),
+        (0x48, &[0, 5, 6, 10, 21]),
+    ];
+    for (seed, records) in [(4, 100), (5, 30_000)] {
+        let log = every(seed, records);
+        let lines = lines(&log);
+        for (message_type, answers) in wanted {
+            let of_type = lines
+                .iter()
+                .zip(log.chunks(LOG_RECORD))
+                .filter(|(_, record)| record[10] == message_type);
+            let seen: BTreeSet<i64> = of_type.map(|(line, _)| line.refusal).collect();
+            println!("{records} records, {message_type:02X}: {seen:?}");
+            // What reading refuses comes in the random part.
+            let wanted = answers.iter().filter(|&&it| records > 100 || it == 0 || it >= 7);
+            assert!(
+                wanted.clone().all(|it| seen.contains(it)),
+                "{message_type:02X}: {seen:?}"
+            );
+        }
+    }
 }
 
 /// The log in `examples/` is the one that is made, whole.
@@ -152,7 +208,7 @@ fn the_hour_is_an_hour() {
     assert!(times.is_sorted());
     assert_eq!(times[0], 0);
     assert!((3_590_000..3_600_000).contains(times.last().expect("a last record")));
-    assert!((150..=240).contains(&times.len()), "{} records", times.len());
+    assert!((150..=260).contains(&times.len()), "{} records", times.len());
 }
 
 /// It shows every state, numbers of every width but one byte, positions under 0, one to three datasets, and the refusals
@@ -161,18 +217,44 @@ fn the_hour_is_an_hour() {
 fn what_the_hour_shows() {
     let log = hour();
     let lines = lines(&log);
-    let values = lines.iter().filter(|line| line.len() > 2);
-    let states: BTreeSet<i64> = values.clone().map(|line| line[4]).collect();
+    let states: BTreeSet<i64> = values(&lines).map(|value| value.state).collect();
     assert_eq!(states, [0, 1, 2, 3].into());
-    let sizes: BTreeSet<usize> = values.clone().map(|line| line.len() - 6).collect();
+    let singles = values(&lines).filter(|value| value.mode.is_some());
+    let sizes: BTreeSet<usize> = singles.map(|value| value.datasets.len()).collect();
     assert_eq!(sizes, [1, 2, 3].into());
-    let negative: Vec<&[i64]> = values
-        .map(|line| &line[2..])
-        .filter(|it| it[4..].iter().any(|&number| number < 0))
+    let negative: Vec<&LineValue> = values(&lines)
+        .filter(|value| value.datasets.iter().any(|&number| number < 0))
         .collect();
-    assert_eq!(negative, [[0, 2, 2, 302, -8], [0, 2, 2, 302, -3]]);
-    let refusals: Vec<i64> = lines.iter().map(|line| line[1]).filter(|&it| it != 0).collect();
-    assert_eq!(refusals, [14, 14, 15, 7, 18, 16, 19, 7, 22, 10, 12, 14, 15, 10]);
+    let back = |degrees| LineValue {
+        port: 0,
+        mode: Some(2),
+        state: 2,
+        experiment: 302,
+        pointers: None,
+        datasets: vec![degrees],
+    };
+    assert_eq!(negative, [&back(-8), &back(-3)]);
+    let refusals: Vec<i64> = lines.iter().map(|line| line.refusal).filter(|&it| it != 0).collect();
+    assert_eq!(refusals, [14, 14, 15, 7, 18, 16, 19, 7, 22, 10, 12, 14, 15, 14, 21, 10]);
+}
+
+/// What the colour sensor sends by its lists: pointers, state, experiment number and values.
+#[test]
+fn combined_values_of_the_hour() {
+    let lines = lines(&hour());
+    let combined = values(&lines).filter_map(|value| Some((value.pointers?, value)));
+    let shown: Vec<(i64, i64, i64, &[i64])> = combined
+        .map(|(pointers, value)| (pointers, value.state, value.experiment, &value.datasets[..]))
+        .collect();
+    let wanted: [(i64, i64, i64, &[i64]); 6] = [
+        (15, 2, 303, &[3, 50, 64, 205]),
+        (1, 2, 303, &[9]),
+        (14, 1, 0, &[211, 39, 30]),
+        (1, 3, 0, &[212]),
+        (3, 2, 303, &[212, 40]),
+        (2, 2, 303, &[44]),
+    ];
+    assert_eq!(shown, wanted);
 }
 
 /// The records of the hour carry the number of the running experiment, and its values do in state 2 and in no other.
@@ -186,9 +268,9 @@ fn experiments_of_the_hour() {
     numbers.dedup();
     assert_eq!(numbers, [0, 301, 302, 303]);
     let mut shown = BTreeSet::new();
-    for line in lines(&log).iter().filter(|line| line.len() > 2) {
-        let [state, experiment] = [line[4], line[5]];
-        assert_eq!(state == 2, experiment != 0, "{line:?}");
+    for value in values(&lines(&log)) {
+        let [state, experiment] = [value.state, value.experiment];
+        assert_eq!(state == 2, experiment != 0, "{value:?}");
         shown.insert([state, experiment]);
     }
     assert_eq!(shown, [[0, 0], [1, 0], [2, 301], [2, 302], [2, 303], [3, 0]].into());
@@ -198,16 +280,13 @@ fn experiments_of_the_hour() {
 /// times; before and after they are in state 2 and have that of the experiment.
 #[test]
 fn late_answers_of_the_hour() {
-    let motor_a: Vec<[i64; 4]> = lines(&hour())
-        .iter()
-        .filter(|line| line.len() > 2 && line[2] == 0)
-        .map(|line| [line[3], line[4], line[5], line[6]])
-        .collect();
     let mut stages: Vec<([i64; 3], Vec<i64>)> = Vec::new();
-    for [mode, state, experiment, number] in motor_a {
+    for value in values(&lines(&hour())).filter(|value| value.port == 0) {
+        let mode = value.mode.expect("motor A is never combined");
+        let (now, number) = ([mode, value.state, value.experiment], value.datasets[0]);
         match stages.last_mut() {
-            Some((stage, numbers)) if *stage == [mode, state, experiment] => numbers.push(number),
-            _ => stages.push(([mode, state, experiment], vec![number])),
+            Some((stage, numbers)) if *stage == now => numbers.push(number),
+            _ => stages.push((now, vec![number])),
         }
     }
     let order: Vec<[i64; 3]> = stages.iter().map(|&(stage, _)| stage).collect();

@@ -136,9 +136,9 @@ fn selectors_that_do_not_fit() {
         }
     }
     println!("selectors that don't fit: {messages} messages");
-    // 01 and 03 both ways, and 04 and 43 up: none or one byte of two. 02 both ways, and 61 down: none of one. 44 up and
-    // 81 down: none, one or two of three.
-    assert_eq!(messages, 6 * (1 + 256) + 3 + 2 * (1 + 256 + 65_536));
+    // 01 and 03 both ways, 42 down, and 04 and 43 up: none or one byte of two. 02 both ways, and 61 down: none of one.
+    // 44 up and 81 down: none, one or two of three.
+    assert_eq!(messages, 7 * (1 + 256) + 3 + 2 * (1 + 256 + 65_536));
 }
 
 /// Every form with every number of open bytes: 6 tells the smallest size of the form. That is the length of what is

@@ -1,12 +1,16 @@
 //! The table and the reader without a table give every answer that is written out by hand.
 
-use yardstick::examples::{bytes, TableStep, EXPERIMENTS, TABLES, WHOLE_NUMBERS};
+use yardstick::examples::{bytes, TableExample, TableStep, COMBINED, EXPERIMENTS, TABLES, WHOLE_NUMBERS};
 use yardstick::traffic::compose;
 use yardstick::{Form, MessageList, Refusal, Table, Way};
 
+fn examples() -> impl Iterator<Item = &'static TableExample> {
+    TABLES.iter().chain(EXPERIMENTS).chain(WHOLE_NUMBERS).chain(COMBINED)
+}
+
 #[test]
 fn table_examples() {
-    for example in TABLES.iter().chain(EXPERIMENTS).chain(WHOLE_NUMBERS) {
+    for example in examples() {
         let mut table = Table::default();
         for step in example.steps {
             let name = format!("{}: {step:?}", example.name);
@@ -36,7 +40,7 @@ fn table_examples() {
 
 #[test]
 fn table_examples_without_a_table() {
-    for example in TABLES.iter().chain(EXPERIMENTS).chain(WHOLE_NUMBERS) {
+    for example in examples() {
         let mut list = MessageList::default();
         for step in example.steps {
             let name = format!("{}: {step:?}", example.name);

@@ -2,9 +2,10 @@
 //!
 //!     repeat-call CALL TABLE COUNT
 //!
-//! CALL is none, read, write, offer, values, values-16, dataset, ports, port or format. TABLE is empty, six (ports, three
-//! formats each) or full (sixteen ports, four of them virtual, and the formats of all sixteen modes). At the ports of a
-//! table mode 1 is answered, of two datasets of two bytes; at the second port of a full one mode 15, of sixteen floats.
+//! CALL is none, read, write, offer, values, values-16, combined-1, combined-16, dataset, ports, port or format. TABLE is
+//! empty, six (ports, three formats each) or full (sixteen ports, four of them virtual, and the formats of all sixteen
+//! modes). At the ports of a table mode 1 is answered, of two datasets of two bytes; at the second port of a full one
+//! mode 15, of sixteen floats. The third port of a full one is combined, with the datasets of mode 15 as its list.
 
 use std::env;
 use std::process::exit;
@@ -65,6 +66,10 @@ fn make(name: &str) -> [u32; TABLE_CELLS] {
                 set_up(&mut table, port, 16);
             }
             ask(&mut table, 1, 15);
+            let mut list = vec![22, 0, 0x42, 2, 1, 0];
+            list.extend(0xF0..=0xFF);
+            accept(&mut table, DOWN, &list);
+            accept(&mut table, UP, &[7, 0, 0x48, 2, 0, 0xFF, 0xFF]);
         }
         _ => usage(),
     }
@@ -76,13 +81,15 @@ fn usage() -> ! {
     exit(2)
 }
 
-const CALLS: [&str; 10] = [
+const CALLS: [&str; 12] = [
     "none",
     "read",
     "write",
     "offer",
     "values",
     "values-16",
+    "combined-1",
+    "combined-16",
     "dataset",
     "ports",
     "port",
@@ -103,6 +110,9 @@ fn main() {
     let value = [8, 0, 0x45, 0, 0xFD, 0xFF, 5, 0];
     let mut long_value = [0; 68];
     long_value[..4].copy_from_slice(&[68, 0, 0x45, 1]);
+    let combined = [10, 0, 0x46, 2, 1, 0, 0, 0, 0, 0];
+    let mut long_combined = [0; 70];
+    long_combined[..6].copy_from_slice(&[70, 0, 0x46, 2, 0xFF, 0xFF]);
     let mut row = [0; ROW_CELLS];
     read(&setup, UP, &mut row).expect("a message");
     let mut out = [0; LONGEST];
@@ -117,9 +127,11 @@ fn main() {
             3 => offer(&mut table, &setup, UP, 7),
             4 => values(&table, &value, UP, &mut rows),
             5 => values(&table, &long_value, UP, &mut rows),
-            6 => dataset(&table, &value, UP, 1, &mut rows[..DATASET_CELLS]),
-            7 => ports(&table, &mut listed),
-            8 => port(&table, 0, &mut rows[..PORT_CELLS]),
+            6 => values(&table, &combined, UP, &mut rows),
+            7 => values(&table, &long_combined, UP, &mut rows),
+            8 => dataset(&table, &value, UP, 1, &mut rows[..DATASET_CELLS]),
+            9 => ports(&table, &mut listed),
+            10 => port(&table, 0, &mut rows[..PORT_CELLS]),
             _ => format(&table, 0, 1, &mut rows[..FORMAT_CELLS]),
         };
         sum += answer.unwrap_or_else(|refused| refused.number as usize);

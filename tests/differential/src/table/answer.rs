@@ -1,9 +1,9 @@
 //! Answers of the second program as the product lays them out.
 
-use yardstick::{Dataset, Format, Port, Refusal, Setup, Value, Wiring};
+use yardstick::{Answered, Asked, Dataset, Format, List, Port, Refusal, Setup, Value, Wiring};
 
 use crate::answer::{answer, refused, Filled};
-use crate::castanetash::{DATASET_CELLS, FORMAT_CELLS, PORT_CELLS};
+use crate::castanetash::{port_cell, DATASET_CELLS, FORMAT_CELLS, PORT_CELLS};
 
 /// The answer to an offered message.
 pub fn offer_answer(offered: Result<(), Refusal>) -> u64 {
@@ -39,8 +39,9 @@ fn cells_of(dataset: Dataset) -> [u64; DATASET_CELLS] {
     ]
 }
 
-/// Wiring, device, partner, second member, state, then whether something was asked, its mode, delta and notify, then the
-/// same of the answer, then the experiment number. All is 0 for an absent port.
+/// Wiring, device, partner, second member, state, then how something was asked, its mode, delta and notify, then the
+/// same of the answer, then the experiment number, the pointers, the list and the list that was taken over. All is 0 for
+/// an absent port.
 pub fn port_cells(asked: Result<Option<Port>, Refusal>) -> Filled<PORT_CELLS> {
     let mut cells = [0; PORT_CELLS];
     if let Some(port) = asked.map_err(refused)? {
@@ -54,17 +55,37 @@ pub fn port_cells(asked: Result<Option<Port>, Refusal>) -> Filled<PORT_CELLS> {
         cells[2] = partner.into();
         cells[3] = second.into();
         cells[4] = port.state.number().into();
-        cells[5..9].copy_from_slice(&setup_cells(port.asked));
-        cells[9..13].copy_from_slice(&setup_cells(port.answered));
+        let asked = match port.asked {
+            None => [0; 4],
+            Some(Asked::Single(setup)) => setup_cells(setup),
+            Some(Asked::List) => [2, 0, 0, 0],
+        };
+        cells[5..9].copy_from_slice(&asked);
+        let (answered, pointers, taken) = match port.answered {
+            None => ([0; 4], 0, None),
+            Some(Answered::Single(setup)) => (setup_cells(setup), 0, None),
+            Some(Answered::Combined { pointers, list }) => ([2, 0, 0, 0], pointers, Some(list)),
+        };
+        cells[9..13].copy_from_slice(&answered);
         cells[13] = port.experiment.into();
+        cells[port_cell::POINTERS] = pointers.into();
+        put_list(&mut cells[port_cell::LIST..port_cell::TAKEN], port.list);
+        put_list(&mut cells[port_cell::TAKEN..], taken);
     }
     Ok(cells)
 }
 
-fn setup_cells(setup: Option<Setup>) -> [u64; 4] {
-    match setup {
-        None => [0; 4],
-        Some(setup) => [1, setup.mode.into(), setup.delta.into(), setup.notify.into()],
+fn setup_cells(setup: Setup) -> [u64; 4] {
+    [1, setup.mode.into(), setup.delta.into(), setup.notify.into()]
+}
+
+/// The count, then the entries. The other cells are left as they are.
+fn put_list(cells: &mut [u64], list: Option<List>) {
+    if let Some(list) = list {
+        cells[0] = list.entries().len() as u64;
+        for (cell, &entry) in cells[1..].iter_mut().zip(list.entries()) {
+            *cell = entry.into();
+        }
     }
 }
 

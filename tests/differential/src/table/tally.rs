@@ -1,7 +1,7 @@
 use std::collections::BTreeSet;
 use std::fmt;
 
-use yardstick::{Dataset, ExperimentTally, Offered, Port, Refusal, Table, Value, Wiring};
+use yardstick::{Answered, CombinedTally, Dataset, ExperimentTally, Offered, Port, Refusal, Table, Value, Wiring};
 
 /// How many numbers answers have: 0 for acceptance and the refusals.
 const NUMBERS: usize = 24;
@@ -23,9 +23,12 @@ pub struct TableTally {
     wirings: [u64; 4],
     states: [u64; 4],
     formats: u64,
+    /// Ports that are combined.
+    combined_ports: u64,
     /// Ports with an experiment number other than 0, by their state.
     ports_with_number: [u64; 4],
     experiments: ExperimentTally,
+    combined: CombinedTally,
 }
 
 impl TableTally {
@@ -68,6 +71,11 @@ impl TableTally {
         self.experiments.count_offered(gone, offered);
     }
 
+    /// Counts what an offered message shows of combined ports. `gone` belongs to the list of messages.
+    pub fn count_offered_combined(&mut self, gone: &mut BTreeSet<u8>, offered: &Offered) {
+        self.combined.count(gone, offered);
+    }
+
     /// Counts a port.
     pub fn count_port(&mut self, port: Option<Port>) {
         let Some(port) = port else {
@@ -83,6 +91,7 @@ impl TableTally {
         let state = usize::from(port.state.number());
         self.states[state] += 1;
         self.ports_with_number[state] += u64::from(port.experiment != 0);
+        self.combined_ports += u64::from(matches!(port.answered, Some(Answered::Combined { .. })));
     }
 
     /// Counts a known format.
@@ -145,9 +154,11 @@ impl TableTally {
         }
     }
 
-    /// Panics unless ports of every wiring and every state, and known formats, came at least `least` times.
+    /// Panics unless ports of every wiring and every state, and known formats, came at least `least` times, and combined
+    /// ports.
     pub fn expect_ports(&self, least: u64) {
-        let counts = self.wirings.iter().chain(&self.states).chain([&self.formats]);
+        let counts = self.wirings.iter().chain(&self.states);
+        let counts = counts.chain([&self.formats, &self.combined_ports]);
         for &seen in counts {
             assert!(seen >= least, "a port's answer came {seen} times, not {least}\n{self}");
         }
@@ -165,6 +176,11 @@ impl TableTally {
     pub fn expect_experiments(&self, least: u64) {
         self.expect_numbers(least);
         self.experiments.expect(least);
+    }
+
+    /// Panics unless all that lists can show of combined ports came at least `least` times.
+    pub fn expect_combined(&self, least: u64) {
+        self.combined.expect(least);
     }
 }
 
@@ -202,12 +218,15 @@ impl fmt::Display for TableTally {
             write!(
                 f,
                 "\nports: absent {absent}, unjoined {unjoined}, joined {joined}, virtual {virtual_ports}; states {:?}, \
-                 with a number {:?}; formats {}",
-                self.states, self.ports_with_number, self.formats
+                 with a number {:?}; combined {}; formats {}",
+                self.states, self.ports_with_number, self.combined_ports, self.formats
             )?;
         }
         if !self.experiments.is_empty() {
             write!(f, "\nexperiments: {}", self.experiments)?;
+        }
+        if !self.combined.is_empty() {
+            write!(f, "\ncombined ports: {}", self.combined)?;
         }
         Ok(())
     }

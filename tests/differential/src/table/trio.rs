@@ -18,6 +18,8 @@ pub struct Trio {
     list: MessageList,
     /// The ports that went with an experiment number.
     gone: BTreeSet<u8>,
+    /// Those that went while they were combined.
+    combined_gone: BTreeSet<u8>,
 }
 
 impl Default for Trio {
@@ -28,6 +30,7 @@ impl Default for Trio {
             table: Table::default(),
             list: MessageList::default(),
             gone: BTreeSet::new(),
+            combined_gone: BTreeSet::new(),
         }
     }
 }
@@ -65,6 +68,7 @@ impl Trio {
         };
         tally.count_offered(answer);
         tally.count_offered_experiment(&mut self.gone, &offered);
+        tally.count_offered_combined(&mut self.combined_gone, &offered);
         touched.extend(self.named(message));
         touched.extend(before.ports().filter(|&port| self.table.port(port).is_none()));
         touched.sort_unstable();

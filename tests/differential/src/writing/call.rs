@@ -41,7 +41,8 @@ impl Call {
     }
 }
 
-/// Messages that reading accepts: the examples of every form, and the longest texts, values and feedback.
+/// Messages that reading accepts: the examples of every form, the longest list among them, and the longest texts, values
+/// and feedback.
 pub fn valid_messages() -> Vec<(Way, Vec<u8>)> {
     let mut messages: Vec<(Way, Vec<u8>)> = FORMS.iter().map(|it| (it.way, it.bytes())).collect();
     for start in [[0x7F, 0, 0x01, 8, 6], [0x7F, 0, 0x01, 9, 6], [0x7F, 0, 0x45, 0, 0]] {
@@ -49,6 +50,9 @@ pub fn valid_messages() -> Vec<(Way, Vec<u8>)> {
         message.extend(0x83..=0xFC);
         messages.push((Way::Up, message));
     }
+    let mut combined = vec![0x7F, 0, 0x46, 0, 0xFF, 0xFF];
+    combined.extend(0x83..=0xFB);
+    messages.push((Way::Up, combined));
     messages.push((Way::Up, longest_feedback()));
     messages
 }

@@ -64,7 +64,12 @@ pub fn any_call(random: &mut Random) -> Call {
     };
     let has_open = matches!(
         form,
-        Form::PropertyText | Form::ModeText | Form::PortValue | Form::OutputFeedback
+        Form::PropertyText
+            | Form::ModeText
+            | Form::PortValue
+            | Form::OutputFeedback
+            | Form::ModeDatasets
+            | Form::PortValueCombined
     );
     if has_open || random.once_in(8) {
         resize_open(random, &mut call.open, 16);

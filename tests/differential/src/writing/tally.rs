@@ -147,7 +147,10 @@ fn can_get(form: Form, number: usize) -> bool {
         // 01, 02 and 03 go both ways.
         5 => form.number() >= Form::Detached.number(),
         // These have neither a selector nor a field with a list.
-        7 => !matches!(form, Form::GoIntoBootMode | Form::PortValue),
+        7 => !matches!(
+            form,
+            Form::GoIntoBootMode | Form::PortValue | Form::PortValueCombined | Form::InputFormatCombined
+        ),
         // These have no field without a list.
         255 => !matches!(
             form,

@@ -77,6 +77,13 @@ impl Bytes {
         Ok(())
     }
 
+    /// The entries of a list, of which none is there twice.
+    pub(super) fn entries(&mut self, entries: &[u8]) -> Result<(), Refusal> {
+        let first_repeat = lists::first_repeat(entries);
+        self.run(&entries[..first_repeat.unwrap_or(entries.len())]);
+        self.expect(first_repeat.is_none())
+    }
+
     /// Six bytes, the most significant first.
     pub(super) fn six_bytes(&mut self, value: u64) -> Result<(), Refusal> {
         self.expect(value < 1 << 48)?;

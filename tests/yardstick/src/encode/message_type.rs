@@ -6,7 +6,7 @@ use crate::way::Way;
 pub(super) fn judge_way(way: Way, form: Form) -> Result<(), Refusal> {
     let goes = match message_type(form) {
         0x01..=0x03 => true,
-        0x04 | 0x05 | 0x13 | 0x43..=0x47 | 0x82 => way == Way::Up,
+        0x04 | 0x05 | 0x13 | 0x43..=0x48 | 0x82 => way == Way::Up,
         _ => way == Way::Down,
     };
     if goes {
@@ -60,5 +60,8 @@ pub(super) fn message_type(form: Form) -> u8 {
         | Form::GotoAbsolutePositions
         | Form::PresetEncoders => 0x81,
         Form::OutputFeedback => 0x82,
+        Form::CombinedSetup | Form::ModeDatasets => 0x42,
+        Form::PortValueCombined => 0x46,
+        Form::InputFormatCombined => 0x48,
     }
 }

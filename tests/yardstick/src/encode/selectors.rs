@@ -25,6 +25,7 @@ pub(super) fn judge(way: Way, message: Message) -> Result<(), Refusal> {
             (4, form_of_alert(operation))
         }
         (0x04, &[_, event, ..]) => (4, form_of_event(listed(event, 4, lists::is_event)?)),
+        (0x42, &[_, sub, ..]) => (4, form_of_combined_sub(listed(sub, 4, lists::is_combined_sub)?)),
         (0x43, &[_, information_type, ..]) => {
             let information_type = listed(information_type, 4, lists::is_port_information)?;
             (4, form_of_port_information(information_type))
@@ -80,6 +81,14 @@ fn form_of_event(event: u8) -> Form {
         0 => Form::Detached,
         1 => Form::Attached,
         _ => Form::AttachedVirtual,
+    }
+}
+
+fn form_of_combined_sub(sub: u8) -> Form {
+    if sub == 1 {
+        Form::ModeDatasets
+    } else {
+        Form::CombinedSetup
     }
 }
 

@@ -28,6 +28,9 @@ fn open_lengths(message: Message) -> RangeInclusive<usize> {
         (Form::PortValue, _) => 1..=123,
         // And for 62 pairs after its header.
         (Form::OutputFeedback, _) => 2..=124,
+        (Form::ModeDatasets, _) => lists::ENTRIES,
+        // And for 121 after port and pointers.
+        (Form::PortValueCombined, _) => 1..=121,
         _ => 0..=0,
     }
 }

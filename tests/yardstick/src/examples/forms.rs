@@ -122,4 +122,21 @@ pub const FORMS: &[Example] = &[
     with_open(Up, "05 00 82 10 0A", Form::OutputFeedback, &[], 3..5),
     with_open(Up, "09 00 82 00 01 FF 1F 10 00", Form::OutputFeedback, &[], 3..9),
     with_open(Up, "0B 00 82 01 02 01 04 00 08 02 10", Form::OutputFeedback, &[], 3..11),
+    // 42: the sub commands that leave the list alone.
+    accepted(Down, "05 00 42 00 02", Form::CombinedSetup, &[0, 2]),
+    accepted(Down, "05 00 42 3C 03", Form::CombinedSetup, &[0x3C, 3]),
+    accepted(Down, "05 00 42 01 04", Form::CombinedSetup, &[1, 4]),
+    accepted(Down, "05 00 42 FF 06", Form::CombinedSetup, &[255, 6]),
+    // 42: a list of one entry, which may be 0; of two, one equal to the combination index; of sixteen.
+    with_open(Down, "07 00 42 00 01 00 00", Form::ModeDatasets, &[0, 1, 0], 6..7),
+    with_open(Down, "08 00 42 03 01 10 10 21", Form::ModeDatasets, &[3, 1, 16], 6..8),
+    with_open(Down, "16 00 42 FF 01 FF 0F 1E 2D 3C 4B 5A 69 78 87 96 A5 B4 C3 D2 E1 F0",
+        Form::ModeDatasets, &[255, 1, 255], 6..22),
+    // 46: one value byte, three, and a dozen; any pointers, none too.
+    with_open(Up, "07 00 46 3F 00 80 00", Form::PortValueCombined, &[63, 0x8000], 6..7),
+    with_open(Up, "09 00 46 00 03 00 80 FE FF", Form::PortValueCombined, &[0, 3], 6..9),
+    with_open(Up, "12 00 46 01 00 00 00 00 80 3F 00 00 00 40 00 00 C0 7F", Form::PortValueCombined, &[1, 0], 6..18),
+    // 48: any control byte, any pointers.
+    accepted(Up, "07 00 48 01 FF 03 80", Form::InputFormatCombined, &[1, 255, 0x8003]),
+    accepted(Up, "07 00 48 FF 00 00 00", Form::InputFormatCombined, &[255, 0, 0]),
 ];

@@ -30,6 +30,14 @@ impl LogExample {
     }
 }
 
+// Combined mode of port 0: mode 1 has one dataset of 8 bits, mode 2 two of 16 bits; a list of one of each, the answer
+// with both pointers, and both values.
+const NARROW_1: &str = "0A 00 44 00 01 80 01 00 03 00";
+const MEDIUM_2: &str = "0A 00 44 00 02 80 02 01 05 00";
+const LIST: &str = "08 00 42 00 01 00 10 21";
+const COMBINE: &str = "07 00 48 00 00 03 00";
+const VALUES: &str = "09 00 46 00 03 00 80 FE FF";
+
 /// Logs with their lines.
 #[rustfmt::skip]
 pub const LOGS: &[LogExample] = &[
@@ -145,6 +153,53 @@ pub const LOGS: &[LogExample] = &[
         ],
         lines: "1 0\n2 0\n3 0\n4 0\n5 0\n6 10\n7 22\n8 0\n9 0\n10 0\n11 0\n12 0\n13 22\n14 0\n15 10\n16 7\n17 6\n\
                 18 5\n19 7\n20 0 0 2 2 9 5\ntotal 20 refused 8\n",
+    },
+    LogExample {
+        name: "a combined port: the list was asked with number 9",
+        records: &[
+            ("01 00 01 00", ATTACH), ("01 00 02 00", NARROW_1), ("01 00 03 00", MEDIUM_2), ("00 00 09 00", LIST),
+            ("01 00 04 00", COMBINE), ("01 00 05 00", VALUES),
+        ],
+        lines: "1 0\n2 0\n3 0\n4 0\n5 0\n6 0 0 2 9 3 -128 -2\ntotal 6 refused 0\n",
+    },
+    LogExample {
+        name: "the pointer word, decimal; states 1 and 3 print 0 as the number",
+        records: &[
+            ("01 00 00 00", ATTACH), ("01 00 00 00", NARROW_1), ("01 00 00 00", MEDIUM_2), ("00 00 FF FF", LIST),
+            ("01 00 00 00", COMBINE), ("01 00 00 00", "07 00 46 00 01 00 7F"),
+            ("01 00 00 00", "08 00 46 00 02 00 00 80"),
+            // Another list: the values are still of the old one.
+            ("00 00 07 00", "08 00 42 00 01 00 21 10"), ("01 00 00 00", VALUES),
+            ("01 00 00 00", "07 00 48 00 00 02 00"), ("01 00 00 00", "07 00 46 00 02 00 80"),
+            // A mode, then the list again, which was kept.
+            ("00 00 08 00", ASK), ("01 00 00 00", ANSWER), ("01 00 00 00", "08 00 45 00 FE FF 01 00"),
+            ("01 00 00 00", VALUES), ("01 00 00 00", COMBINE), ("01 00 00 00", VALUES),
+            ("01 00 00 00", "08 00 45 00 FE FF 01 00"),
+        ],
+        lines: "1 0\n2 0\n3 0\n4 0\n5 0\n6 0 0 2 65535 1 127\n7 0 0 2 65535 2 -32768\n8 0\n9 0 0 1 0 3 -128 -2\n\
+                10 0\n11 0 0 3 0 2 -128\n12 0\n13 0\n14 0 0 2 2 8 -2 1\n15 20\n16 0\n17 0 0 3 0 3 -384 -1\n18 14\n\
+                total 18 refused 2\n",
+    },
+    LogExample {
+        name: "refusals of combined mode; a float of a 46 is its 32 bits, and 18 where it is no number",
+        records: &[
+            ("00 00 00 00", LIST), ("01 00 00 00", COMBINE), ("01 00 00 00", VALUES), ("01 00 00 00", ATTACH),
+            ("01 00 00 00", VALUES), ("01 00 00 00", COMBINE), ("00 00 00 00", "05 00 42 00 02"),
+            ("00 00 00 00", "05 00 42 00 05"), ("00 00 00 00", "06 00 42 00 01 00"),
+            ("00 00 00 00", "0A 00 42 00 01 00 10 21 21 10"), ("01 00 00 00", LIST),
+            // A float of mode 3, and dataset 1 of mode 1.
+            ("00 00 0A 00", "08 00 42 00 01 00 30 11"), ("01 00 00 00", "07 00 48 00 00 04 00"),
+            ("01 00 00 00", "07 00 48 00 00 00 00"), ("01 00 00 00", COMBINE),
+            ("01 00 00 00", "07 00 46 00 00 00 00"), ("01 00 00 00", "07 00 46 00 04 00 00"),
+            ("01 00 00 00", NARROW_1), ("01 00 00 00", "07 00 46 00 03 00 00"), ("01 00 00 00", "07 00 46 00 02 00 00"),
+            ("01 00 00 00", "0A 00 44 00 03 80 01 03 08 03"), ("01 00 00 00", "09 00 46 00 01 00 00 00 00"),
+            ("01 00 00 00", "0A 00 46 00 01 00 00 00 80 BF"), ("01 00 00 00", "0A 00 46 00 01 00 00 00 C0 7F"),
+            ("01 00 00 00", "0A 00 44 00 01 80 02 00 03 00"), ("01 00 00 00", "0B 00 46 00 03 00 00 00 80 FF FE"),
+            ("01 00 00 00", "0B 00 46 00 03 00 00 00 80 BF FE"),
+        ],
+        lines: "1 10\n2 10\n3 10\n4 0\n5 20\n6 21\n7 0\n8 7\n9 6\n10 7\n11 5\n12 0\n13 21\n14 21\n15 0\n16 21\n\
+                17 21\n18 0\n19 15\n20 17\n21 0\n22 16\n23 0 0 2 10 1 3212836864\n24 18\n25 0\n26 18\n\
+                27 0 0 2 10 3 3212836864 -2\ntotal 27 refused 18\n",
     },
     LogExample {
         name: "bytes 6 and 7 are not looked at by refusal 19, byte 5 is",

@@ -2,6 +2,7 @@
 //! programs are held to them.
 
 mod bench;
+mod combined;
 mod experiments;
 mod forms;
 mod hex;
@@ -25,13 +26,14 @@ use crate::values::Values;
 use crate::way::Way;
 
 pub use bench::BENCH;
+pub use combined::COMBINED;
 pub use experiments::EXPERIMENTS;
 pub use forms::FORMS;
 pub use hex::bytes;
 pub use logs::{LogExample, LOGS};
 pub use order::ORDER;
 pub use sizes::SIZES;
-pub use sound::{SoundExample, SOUND};
+pub use sound::{SoundExample, COMBINED_SOUND, SOUND};
 pub use table_step::{TableExample, TableStep};
 pub use tables::TABLES;
 pub use wanted_size::{has_right_size, selected_form, smallest_size, wanted_size, SELECTOR_SIZES};

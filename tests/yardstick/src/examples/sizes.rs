@@ -19,6 +19,9 @@ pub const SIZES: &[Example] = &[
     refused(Up, "04 00 03 01", 6, 5),
     refused(Up, "03 00 04", 6, 5),
     refused(Up, "04 00 04 01", 6, 5),
+    refused(Down, "03 00 42", 6, 5),
+    refused(Down, "04 00 42 00", 6, 5),
+    refused(Down, "04 00 42 01", 6, 5),
     refused(Up, "03 00 43", 6, 5),
     refused(Up, "04 00 43 02", 6, 5),
     refused(Up, "03 00 44", 6, 6),
@@ -84,6 +87,13 @@ pub const SIZES: &[Example] = &[
     refused(Down, "0B 00 41 00 02 01 00 00 00 01 00", 6, 10),
     refused(Up, "03 00 47", 6, 10),
     refused(Up, "0B 00 47 00 02 01 00 00 00 01 00", 6, 10),
+    // 42: sub commands alone, with and without what a list has; a list of nothing and of seventeen.
+    refused(Down, "06 00 42 00 02 00", 6, 5),
+    refused(Down, "07 00 42 00 03 00 10", 6, 5),
+    refused(Down, "08 00 42 00 06 00 10 21", 6, 5),
+    refused(Down, "05 00 42 00 01", 6, 7),
+    refused(Down, "06 00 42 00 01 00", 6, 7),
+    refused(Down, "17 00 42 00 01 00 00 01 02 03 04 05 06 07 08 09 0A 0B 0C 0D 0E 0F 10", 6, 7),
     // 43: modes, and lists of nothing, of half an entry, of an entry and a half and of nine.
     refused(Up, "05 00 43 00 01", 6, 11),
     refused(Up, "0A 00 43 00 01 07 04 0F 00 0F", 6, 11),
@@ -111,6 +121,13 @@ pub const SIZES: &[Example] = &[
     // 45, with a port and without.
     refused(Up, "03 00 45", 6, 5),
     refused(Up, "04 00 45 00", 6, 5),
+    // 46, without a value; 48.
+    refused(Up, "03 00 46", 6, 7),
+    refused(Up, "04 00 46 00", 6, 7),
+    refused(Up, "06 00 46 00 01 00", 6, 7),
+    refused(Up, "03 00 48", 6, 7),
+    refused(Up, "06 00 48 00 00 01", 6, 7),
+    refused(Up, "08 00 48 00 00 01 00 00", 6, 7),
     // 61: disconnect and connect.
     refused(Down, "04 00 61 00", 6, 5),
     refused(Down, "06 00 61 00 10 00", 6, 5),

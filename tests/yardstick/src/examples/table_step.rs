@@ -1,4 +1,4 @@
-use crate::answer::{Dataset, Format, Port, Setup, State, Value, Wiring};
+use crate::answer::{Answered, Asked, Dataset, Format, List, Port, Setup, State, Value, Wiring};
 use crate::refusal::Refusal;
 use crate::way::Way;
 
@@ -87,7 +87,7 @@ pub(super) const fn refused_in(
     }
 }
 
-/// A dataset of a 45, which goes up, with experiment number 0.
+/// A dataset of a 45 or a 46, which goes up, with experiment number 0.
 pub(super) const fn handed_out(
     message: &'static str,
     number: usize,
@@ -159,11 +159,52 @@ pub(super) const fn set_up_in(
             device: 0x26,
             wiring,
             state,
-            asked,
+            asked: match asked {
+                Some(setup) => Some(Asked::Single(setup)),
+                None => None,
+            },
             experiment,
+            list: None,
+            answered: single(answered),
+        }),
+    }
+}
+
+/// A port of device 26 that isn't joined and keeps a list, with its experiment number.
+pub(super) const fn with_list(
+    experiment: u16,
+    port: u8,
+    state: State,
+    asked: Asked,
+    list: &[u8],
+    answered: Option<Answered>,
+) -> TableStep {
+    TableStep::Port {
+        port,
+        answer: Some(Port {
+            device: 0x26,
+            wiring: Wiring::Unjoined,
+            state,
+            asked: Some(asked),
+            experiment,
+            list: Some(List::new(list)),
             answered,
         }),
     }
+}
+
+/// The answer of a 47.
+pub(super) const fn single(setup: Option<Setup>) -> Option<Answered> {
+    match setup {
+        Some(setup) => Some(Answered::Single(setup)),
+        None => None,
+    }
+}
+
+/// The answer of a 48 that took over a list.
+pub(super) const fn combined(pointers: u16, list: &[u8]) -> Option<Answered> {
+    let list = List::new(list);
+    Some(Answered::Combined { pointers, list })
 }
 
 pub(super) const fn absent(port: u8) -> TableStep {

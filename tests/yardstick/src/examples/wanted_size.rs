@@ -45,15 +45,20 @@ pub fn smallest_size(form: Form) -> usize {
         Form::GotoAbsolutePositions => 18,
         Form::PresetEncoders => 14,
         Form::OutputFeedback => 5,
+        Form::CombinedSetup => 5,
+        Form::ModeDatasets => 7,
+        Form::PortValueCombined => 7,
+        Form::InputFormatCombined => 7,
     }
 }
 
 /// The types that have selectors, each with the smallest size that holds them: the place of the last one, and one.
-pub const SELECTOR_SIZES: [(u8, usize); 8] = [
+pub const SELECTOR_SIZES: [(u8, usize); 9] = [
     (0x01, 5),
     (0x02, 4),
     (0x03, 5),
     (0x04, 5),
+    (0x42, 5),
     (0x43, 5),
     (0x44, 6),
     (0x61, 4),
@@ -88,6 +93,8 @@ pub fn selected_form(way: Way, message: &[u8]) -> Option<Form> {
         (Down, [0x21, ..]) => Form::PortInformationRequest,
         (Down, [0x22, ..]) => Form::ModeInformationRequest,
         (Down, [0x41, ..]) => Form::InputFormatSetup,
+        (Down, [0x42, _, 1, ..]) => Form::ModeDatasets,
+        (Down, [0x42, _, 2..=4 | 6, ..]) => Form::CombinedSetup,
         (Up, [0x43, _, 1, ..]) => Form::PortModes,
         (Up, [0x43, _, 2, ..]) => Form::PortCombinations,
         (Up, [0x44, _, _, 0 | 4, ..]) => Form::ModeText,
@@ -97,7 +104,9 @@ pub fn selected_form(way: Way, message: &[u8]) -> Option<Form> {
         (Up, [0x44, _, _, 8, ..]) => Form::ModeCapabilities,
         (Up, [0x44, _, _, 0x80, ..]) => Form::ValueFormat,
         (Up, [0x45, ..]) => Form::PortValue,
+        (Up, [0x46, ..]) => Form::PortValueCombined,
         (Up, [0x47, ..]) => Form::InputFormat,
+        (Up, [0x48, ..]) => Form::InputFormatCombined,
         (Down, [0x61, 0, ..]) => Form::VirtualDisconnect,
         (Down, [0x61, 1, ..]) => Form::VirtualConnect,
         (Down, [0x81, _, _, 0x0C, ..]) => Form::StartSpeedForDegrees,
@@ -120,6 +129,9 @@ pub fn has_right_size(way: Way, message: &[u8]) -> bool {
         Some(Form::ModeText) if message[5] == 0 => (7..=17).contains(&size),
         Some(Form::ModeText) => (7..=11).contains(&size),
         Some(Form::PortValue) => (5..=127).contains(&size),
+        // Port, sub command, combination index and one to sixteen entries.
+        Some(Form::ModeDatasets) => (7..=22).contains(&size),
+        Some(Form::PortValueCombined) => (7..=127).contains(&size),
         // A header and pairs.
         Some(Form::OutputFeedback) => (5..=127).contains(&size) && size % 2 == 1,
         Some(form) => size == smallest_size(form),

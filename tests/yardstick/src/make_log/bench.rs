@@ -26,6 +26,8 @@ struct Link {
     told: Vec<bool>,
     /// The index of its answered mode.
     mode: Option<usize>,
+    /// The list that it sends by in place of a mode, and the pointers of its 48.
+    combined: Option<(&'static [u8], u16)>,
     /// What it measures.
     level: i32,
 }
@@ -35,10 +37,11 @@ impl Link {
         self.is_attached = false;
         self.told.fill(false);
         self.mode = None;
+        self.combined = None;
     }
 
     fn sends(&self) -> bool {
-        self.mode.is_some()
+        self.mode.is_some() || self.combined.is_some()
     }
 }
 
@@ -49,6 +52,7 @@ impl Bench {
             is_attached: false,
             told: vec![false; device.modes.len()],
             mode: None,
+            combined: None,
             level: 0,
         };
         let mut random = Random::new(seed);
@@ -184,12 +188,17 @@ impl Bench {
 
     fn change_mode(&mut self) {
         let index = self.any(|link| link.sends() && link.device.modes.len() > 1);
-        let mode = self.random.below(self.links[index].device.modes.len());
-        self.set(index, mode);
+        let device = self.links[index].device;
+        if !device.lists.is_empty() && self.random.once_in(2) {
+            self.combine(index);
+        } else {
+            let mode = self.random.below(device.modes.len());
+            self.set(index, mode);
+        }
     }
 
-    /// The client sets a port to a mode. Until the hub answers, values still come in the old one.
-    fn set(&mut self, index: usize, mode: usize) {
+    /// The client asks for the name, the range and the format of a mode, unless it has done so.
+    fn ask_about(&mut self, index: usize, mode: usize) {
         let device = self.links[index].device;
         let (number, name, format) = device.modes[mode];
         let [port, number] = [device.port.into(), number.into()];
@@ -206,17 +215,82 @@ impl Bench {
             );
             self.links[index].told[mode] = true;
         }
+    }
+
+    /// The client sets a port to a mode. Until the hub answers, values still come in the old one.
+    fn set(&mut self, index: usize, mode: usize) {
+        self.ask_about(index, mode);
+        let device = self.links[index].device;
+        let [port, number] = [device.port.into(), device.modes[mode].0.into()];
         let delta = self.random.between(1, 5) as u64;
         self.down(Form::InputFormatSetup, &[port, number, delta, 1]);
+        self.late_values(index);
+        let late = self.late_value(index);
+        // Some hubs take another delta than asked.
+        let taken = if self.random.once_in(10) { delta + 1 } else { delta };
+        self.up(Form::InputFormat, &[port, number, taken, 1]);
+        self.links[index].mode = Some(mode);
+        self.links[index].combined = None;
+        self.push_value(late);
+    }
+
+    /// The client asks a port for a list of modes and datasets, now and then for another one before it is answered, or
+    /// for a mode in between. Until the hub answers, values still come as before.
+    fn combine(&mut self, index: usize) {
+        let device = self.links[index].device;
+        let port = u64::from(device.port);
+        let combination = self.random.below(device.lists.len());
+        let list = device.lists[combination];
+        for mode in 0..device.modes.len() {
+            if list.iter().any(|entry| entry >> 4 == device.modes[mode].0) {
+                self.ask_about(index, mode);
+            }
+        }
+        self.down(Form::CombinedSetup, &[port, 2]);
+        if self.random.once_in(4) {
+            let other = self.random.one_of(device.lists);
+            self.down_open(Form::ModeDatasets, &[port, 1, 0], other);
+            self.late_values(index);
+        }
+        self.down_open(Form::ModeDatasets, &[port, 1, combination as u64], list);
+        self.late_values(index);
+        if self.random.once_in(8) {
+            let mode = self.random.below(device.modes.len());
+            self.set(index, mode);
+        }
+        let start = self.random.one_of(&[3, 4]);
+        self.down(Form::CombinedSetup, &[port, start]);
+        let late = self.late_value(index);
+        // Some hubs can't send the last of several.
+        let whole = u16::MAX >> (16 - list.len());
+        let pointers = if list.len() > 1 && self.random.once_in(10) {
+            whole >> 1
+        } else {
+            whole
+        };
+        let control = combination as u64 | (4 - start) << 7;
+        self.up(Form::InputFormatCombined, &[port, control, pointers.into()]);
+        self.links[index].mode = None;
+        self.links[index].combined = Some((list, pointers));
+        self.push_value(late);
+    }
+
+    /// Values of a port that was asked something and has not answered yet.
+    fn late_values(&mut self, index: usize) {
         if self.links[index].sends() {
             for _ in 0..self.random.below(4) {
                 self.value(index);
             }
         }
-        // Some hubs take another delta than asked.
-        let taken = if self.random.once_in(10) { delta + 1 } else { delta };
-        self.up(Form::InputFormat, &[port, number, taken, 1]);
-        self.links[index].mode = Some(mode);
+    }
+
+    /// Now and then a value that is sent before the answer, and comes after it.
+    fn late_value(&mut self, index: usize) -> Option<Vec<u8>> {
+        if self.random.once_in(8) {
+            self.value_message(index)
+        } else {
+            None
+        }
     }
 
     /// The client drives both motors by the virtual port, or a motor alone, and the hub tells how far they are. Some
@@ -305,30 +379,53 @@ impl Bench {
         self.push_value(message);
     }
 
-    /// Puts a 45 behind what comes next, if there is one.
+    /// Puts a value behind what comes next, if there is one.
     fn push_value(&mut self, message: Option<Vec<u8>>) {
         if let Some(message) = message {
             self.push(Way::Up, message);
         }
     }
 
-    /// A 45 by a device's mode, if it has one. Its level wanders.
+    /// A 45 by a device's mode, if it has one, or a 46 by its list. Its level wanders.
     fn value_message(&mut self, index: usize) -> Option<Vec<u8>> {
         let step = self.random.below(21) as i32 - 10;
+        if let Some((list, sent)) = self.links[index].combined {
+            self.links[index].level += step;
+            return Some(self.combined_message(index, list, sent));
+        }
         let link = &mut self.links[index];
         let (_, _, [datasets, kind, ..]) = link.device.modes[link.mode?];
         link.level += step;
         let mut bytes = Vec::new();
         for dataset in 0..datasets {
-            let level = link.level + 7 * i32::from(dataset);
-            match kind {
-                0 => bytes.extend(((level % 100) as i8).to_le_bytes()),
-                1 => bytes.extend(((level % 10_000) as i16).to_le_bytes()),
-                2 => bytes.extend(level.to_le_bytes()),
-                _ => bytes.extend((level as f32 / 8.0).to_le_bytes()),
-            }
+            push_dataset(&mut bytes, kind, link.level + 7 * i32::from(dataset));
         }
         Some(compose(Way::Up, Form::PortValue, &[link.device.port.into()], &bytes))
+    }
+
+    /// A 46 by a list, with all pointers of the 48 or some of them.
+    fn combined_message(&mut self, index: usize, list: &[u8], sent: u16) -> Vec<u8> {
+        let some = sent & self.random.number() as u16;
+        let pointers = if some != 0 && self.random.once_in(2) {
+            some
+        } else {
+            sent
+        };
+        let link = &self.links[index];
+        let kind = |mode: u8| {
+            let mut modes = link.device.modes.iter();
+            let (_, _, [_, kind, ..]) = *modes.find(|(number, ..)| *number == mode)?;
+            Some(kind)
+        };
+        let mut bytes = Vec::new();
+        for (place, entry) in list.iter().enumerate() {
+            if pointers >> place & 1 == 1 {
+                let kind = kind(entry >> 4).expect("a list is of a device's modes");
+                push_dataset(&mut bytes, kind, link.level + 7 * i32::from(entry & 0x0F));
+            }
+        }
+        let values = [link.device.port.into(), pointers.into()];
+        compose(Way::Up, Form::PortValueCombined, &values, &bytes)
     }
 
     /// A device of those that are as wanted, of which there is at least one.
@@ -348,10 +445,24 @@ impl Bench {
     }
 
     fn down(&mut self, form: Form, values: &[u64]) {
-        self.push(Way::Down, compose(Way::Down, form, values, &[]));
+        self.down_open(form, values, &[]);
+    }
+
+    fn down_open(&mut self, form: Form, values: &[u64], open: &[u8]) {
+        self.push(Way::Down, compose(Way::Down, form, values, open));
     }
 
     fn push(&mut self, way: Way, message: Vec<u8>) {
         self.queue.push_back((way, message, self.experiment));
+    }
+}
+
+/// A dataset of a kind that says a level.
+fn push_dataset(bytes: &mut Vec<u8>, kind: u8, level: i32) {
+    match kind {
+        0 => bytes.extend(((level % 100) as i8).to_le_bytes()),
+        1 => bytes.extend(((level % 10_000) as i16).to_le_bytes()),
+        2 => bytes.extend(level.to_le_bytes()),
+        _ => bytes.extend((level as f32 / 8.0).to_le_bytes()),
     }
 }

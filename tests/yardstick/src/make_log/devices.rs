@@ -10,6 +10,8 @@ pub(super) struct Device {
     pub(super) external: bool,
     /// The modes that are used. Each has its number, its name and its format as sent.
     pub(super) modes: &'static [(u8, &'static [u8], [u8; 4])],
+    /// The lists that it is asked for, each an index of its combinations. Their modes are among those above.
+    pub(super) lists: &'static [&'static [u8]],
 }
 
 /// The device number of a motor with tacho, and of two that are joined.
@@ -30,6 +32,7 @@ const fn internal(port: u8, device: u16, modes: &'static [(u8, &'static [u8], [u
         members: None,
         external: false,
         modes,
+        lists: &[],
     }
 }
 
@@ -53,16 +56,24 @@ pub(super) const DEVICES: &[Device] = &[
         )
     },
     // Vision sensor: colour, distance, red green and blue, all together.
-    external(
-        2,
-        0x0025,
-        &[
-            (0, b"COLOR", [1, 0, 3, 0]),
-            (1, b"PROX", [1, 0, 3, 0]),
-            (6, b"RGB I", [3, 1, 5, 0]),
-            (8, b"SPEC 1", [4, 0, 3, 0]),
+    Device {
+        lists: &[
+            &[0x00, 0x10],
+            &[0x00, 0x10, 0x60, 0x61, 0x62],
+            &[0x62, 0x61, 0x60],
+            &[0x10],
         ],
-    ),
+        ..external(
+            2,
+            0x0025,
+            &[
+                (0, b"COLOR", [1, 0, 3, 0]),
+                (1, b"PROX", [1, 0, 3, 0]),
+                (6, b"RGB I", [3, 1, 5, 0]),
+                (8, b"SPEC 1", [4, 0, 3, 0]),
+            ],
+        )
+    },
     // A load cell that sends floats: force, and force and torque along three axes.
     external(3, 0x0040, &[(0, b"FORCE", [1, 3, 8, 3]), (1, b"LOAD", [6, 3, 8, 3])]),
     // RGB light, which sends nothing.

@@ -3,8 +3,8 @@ use crate::log::{log_record, LOG_RECORD};
 use crate::traffic::compose;
 use crate::way::Way;
 
-/// The records of an hour at a bench: three experiments with two motors, and what goes wrong between them. Every record
-/// carries the number of the running experiment, 0 before the first. A number after a message is its refusal.
+/// The records of an hour at a bench: three experiments with two motors, and what goes wrong between them. At the end the
+/// colour sensor sends several modes in one message. Every record carries the number of the running experiment, 0 before the first. A number after a message is its refusal.
 pub(super) fn hour() -> Vec<[u8; LOG_RECORD]> {
     let mut hour = Hour::default();
     hour.switch_on();
@@ -19,6 +19,7 @@ pub(super) fn hour() -> Vec<[u8; LOG_RECORD]> {
     hour.pulled_cable();
     hour.late_answer_back();
     hour.third_experiment();
+    hour.colours_together();
     hour.switch_off();
     hour.records
 }
@@ -41,9 +42,11 @@ const MOTOR_MODES: [(u64, &[u8]); 2] = [(SPEED, b"SPEED"), (POSITION, b"POS")];
 const ONE_WIDE: [u64; 4] = [1, 2, 11, 0];
 const TWO_WIDE: [u64; 4] = [2, 2, 11, 0];
 
-// Red, green and blue, two bytes each.
+// Red, green and blue, two bytes each; and the colour that the sensor takes them for, one byte.
 const RGB: u64 = 6;
 const THREE_NARROW: [u64; 4] = [3, 1, 5, 0];
+const COLOUR_INDEX: u64 = 0;
+const ONE_BYTE: [u64; 4] = [1, 0, 3, 0];
 
 // Newtons, as a float.
 const FORCE: u64 = 0;
@@ -262,7 +265,10 @@ impl Hour {
         self.answer(PAIR, POSITION, 5);
         // Both are sent to a position. 22 for the first command: motor A alone has one only. Then the hub's feedback.
         for port in [MOTOR_A, PAIR] {
-            self.down(Form::GotoAbsolutePositions, &[port, 0x11, 0x0E, 450, 447, 10, 100, 126, 0]);
+            self.down(
+                Form::GotoAbsolutePositions,
+                &[port, 0x11, 0x0E, 450, 447, 10, 100, 126, 0],
+            );
         }
         self.raw(Way::Up, &[0x05, 0x00, 0x82, PAIR as u8, 0x01]);
         for (minute, position) in [(37, 270), (38, 315), (39, 360), (40, 405), (41, 450)] {
@@ -324,6 +330,35 @@ impl Hour {
         self.narrow(VOLTAGE, &[6480]);
     }
 
+    /// The client asks the colour sensor for a list: the colour, red, green and blue in one message. The hub answers with
+    /// a pointer to each of them. Then it is asked for another list, red and green, which it first answers in part.
+    fn colours_together(&mut self) {
+        self.at(57, 0);
+        self.format(COLOUR, COLOUR_INDEX, ONE_BYTE);
+        self.down(Form::CombinedSetup, &[COLOUR, 2]);
+        self.list(&[0x00, 0x60, 0x61, 0x62]);
+        self.down(Form::CombinedSetup, &[COLOUR, 3]);
+        // State 1: the hub has not answered yet.
+        self.narrow(COLOUR, &[51, 66, 203]);
+        self.combined_answer(0b1111);
+        self.combined(0b1111, &[3, 50, 0, 64, 0, 205, 0]);
+        // The colour alone has changed.
+        self.combined(0b0001, &[9]);
+        // 14: it was sent before the answer, and comes too late.
+        self.narrow(COLOUR, &[50, 64, 205]);
+        self.at(57, 30);
+        self.list(&[0x60, 0x61]);
+        // State 1: by the list that the hub answered, and not by the new one.
+        self.combined(0b1110, &[211, 0, 39, 0, 30, 0]);
+        // State 3: red alone is answered. 21: there is no pointer to green.
+        self.combined_answer(0b01);
+        self.combined(0b01, &[212, 0]);
+        self.combined(0b11, &[212, 0, 40, 0]);
+        self.combined_answer(0b11);
+        self.combined(0b11, &[212, 0, 40, 0]);
+        self.combined(0b10, &[44, 0]);
+    }
+
     /// The battery is low, and the client switches the hub off. After the hub's notice no port is present.
     fn switch_off(&mut self) {
         self.at(59, 0);
@@ -374,6 +409,22 @@ impl Hour {
     /// The hub answers with the setup that it has (47).
     fn answer(&mut self, port: u64, mode: u64, delta: u64) {
         self.up(Form::InputFormat, &[port, mode, delta, 1]);
+    }
+
+    /// The client asks the colour sensor for a list of modes and datasets (42, sub command 1).
+    fn list(&mut self, entries: &[u8]) {
+        let message = compose(Way::Down, Form::ModeDatasets, &[COLOUR, 1, 0], entries);
+        self.raw(Way::Down, &message);
+    }
+
+    /// The hub answers which entries of its list the colour sensor sends (48).
+    fn combined_answer(&mut self, pointers: u64) {
+        self.up(Form::InputFormatCombined, &[COLOUR, 0x80, pointers]);
+    }
+
+    /// The values of some entries (46).
+    fn combined(&mut self, pointers: u64, bytes: &[u8]) {
+        self.up_open(Form::PortValueCombined, &[COLOUR, pointers], bytes);
     }
 
     fn battery(&mut self, percent: u64) {

@@ -13,8 +13,9 @@ use bench::Bench;
 use every::Every;
 use hour::hour;
 
-/// Writes a log as a bench makes it: a hub with motors and sensors whose modes change now and then. Each record carries
-/// the number of the running experiment. In a log of a thousand records or more, at least half are accepted 45s.
+/// Writes a log as a bench makes it: a hub with motors and sensors whose modes change now and then, and one of which
+/// sends by lists at times. Each record carries the number of the running experiment. In a log of a thousand records or
+/// more, at least half are accepted 45s.
 pub fn bench_log(seed: u64, records: u64, output: impl Write) -> io::Result<()> {
     let mut bench = Bench::new(seed);
     write_log(records, output, || bench.next_record())

@@ -11,6 +11,7 @@ pub(super) fn opening() -> Vec<[u8; LOG_RECORD]> {
     opening.ports();
     opening.mode_information();
     opening.values();
+    opening.combined();
     opening.crowd();
     opening.records
 }
@@ -111,6 +112,30 @@ impl Opening {
         self.sent_up_open(Form::PortValue, &[0], &nan); // 18
     }
 
+    /// Refusals 17, 20 and 21 too. Port 0 is in mode 2, whose format is one float.
+    fn combined(&mut self) {
+        let one = 1.0_f32.to_le_bytes();
+        let list = [0x20, 0x01, 0x00];
+        self.sent_down_open(Form::ModeDatasets, &[9, 1, 0], &list); // 10
+        self.sent_down(Form::CombinedSetup, &[0, 2]);
+        self.sent_up(Form::InputFormatCombined, &[0, 0, 7]); // 21
+        self.sent_down_open(Form::ModeDatasets, &[0, 1, 0], &list);
+        self.down(&[0x08, 0x00, 0x42, 0x00, 0x01, 0x00, 0x20, 0x20]); // 7
+        self.sent_up_open(Form::PortValueCombined, &[0, 1], &one); // 20
+        self.sent_up(Form::InputFormatCombined, &[0, 0, 8]); // 21
+        self.sent_up(Form::InputFormatCombined, &[0, 0, 7]);
+        self.sent_up_open(Form::PortValueCombined, &[0, 8], &one); // 21
+        self.sent_up_open(Form::PortValueCombined, &[0, 3], &one); // 15
+        self.sent_up(Form::ValueFormat, &[0, 0, 0x80, 1, 0, 3, 0]);
+        self.sent_up_open(Form::PortValueCombined, &[0, 3], &one); // 17
+        self.sent_up_open(Form::PortValueCombined, &[0, 5], &one); // 16
+        self.sent_up_open(Form::PortValueCombined, &[0, 5], &[one.as_slice(), &[0xFE]].concat());
+        self.sent_up_open(Form::PortValueCombined, &[0, 1], &f32::NAN.to_le_bytes()); // 18
+        self.sent_up_open(Form::PortValue, &[0], &one); // 14
+        self.sent_up_open(Form::PortValueCombined, &[9, 1], &one); // 10
+        self.sent_up(Form::InputFormatCombined, &[9, 0, 1]); // 10
+    }
+
     /// Refusal 13 too, and a notice that empties the table.
     fn crowd(&mut self) {
         (2..=15).for_each(|port| self.attach(port));
@@ -133,7 +158,11 @@ impl Opening {
     }
 
     fn sent_down(&mut self, form: Form, values: &[u64]) {
-        self.down(&compose(Way::Down, form, values, &[]));
+        self.sent_down_open(form, values, &[]);
+    }
+
+    fn sent_down_open(&mut self, form: Form, values: &[u64], open: &[u8]) {
+        self.down(&compose(Way::Down, form, values, open));
     }
 
     fn up(&mut self, message: &[u8]) {

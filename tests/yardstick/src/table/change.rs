@@ -7,7 +7,7 @@ impl Table {
     /// Takes a step that this table has judged. Of the experiment number only an asking makes use.
     pub fn take(&mut self, step: Step, experiment: u16) {
         match step {
-            Step::Nothing | Step::Value(_) => {}
+            Step::Nothing | Step::Value(_) | Step::CombinedValue(_) => {}
             Step::Attach { port, device } => self.add(Record::attached(port, device, Wiring::Unjoined)),
             Step::AttachVirtual { port, device, members } => {
                 let [port_a, port_b] = members;
@@ -19,7 +19,9 @@ impl Table {
             Step::Detach { port } => self.detach(port),
             Step::Format { port, mode, format } => self.judged(port).formats[usize::from(mode)] = Some(format),
             Step::Ask { port, setup } => self.judged(port).ask(setup, experiment),
+            Step::AskList { port, list } => self.judged(port).ask_list(list, experiment),
             Step::Answer { port, setup } => self.judged(port).answer(setup),
+            Step::Combine { port, pointers } => self.judged(port).combine(pointers),
             Step::Empty => *self = Table::default(),
         }
     }

@@ -1,5 +1,6 @@
+use super::combined_value::CombinedValue;
 use super::port_value::PortValue;
-use crate::answer::{Format, Setup};
+use crate::answer::{Format, List, Setup};
 
 /// What an accepted message does to the table.
 #[derive(Clone, Copy, Debug, PartialEq, Eq)]
@@ -8,6 +9,8 @@ pub enum Step<'m> {
     Nothing,
     /// Nothing, and it has a value.
     Value(PortValue<'m>),
+    /// Nothing, and it has the values of a combined port.
+    CombinedValue(CombinedValue<'m>),
     /// A physical port is attached.
     Attach {
         /// The port.
@@ -45,12 +48,26 @@ pub enum Step<'m> {
         /// The setup.
         setup: Setup,
     },
+    /// A list is asked.
+    AskList {
+        /// The port.
+        port: u8,
+        /// The list.
+        list: List,
+    },
     /// A setup is answered.
     Answer {
         /// The port.
         port: u8,
         /// The setup.
         setup: Setup,
+    },
+    /// The port's list is answered.
+    Combine {
+        /// The port.
+        port: u8,
+        /// The pointers into the list.
+        pointers: u16,
     },
     /// The hub switches off, disconnects or goes into boot mode.
     Empty,

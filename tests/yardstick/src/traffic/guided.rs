@@ -4,7 +4,7 @@ use super::experiment::experiment;
 use super::float::float;
 use super::plausible::plausible;
 use super::scene::{Scene, Sort};
-use crate::answer::{Port, Setup, State, Wiring};
+use crate::answer::{Answered, Asked, List, Port, Setup, State, Wiring};
 use crate::form::Form;
 use crate::random::Random;
 use crate::table::Table;
@@ -12,6 +12,9 @@ use crate::way::Way;
 
 /// The modes that most messages name.
 const MODES: [u8; 4] = [0, 1, 2, 15];
+
+/// Sub commands that leave the list alone.
+const OTHER_SUBS: [u64; 4] = [2, 3, 4, 6];
 
 /// Deltas, of which two may differ in any byte.
 const DELTAS: [u32; 7] = [0, 1, 5, 0x100, 0x1_0005, 0x8000_0001, u32::MAX];
@@ -61,9 +64,14 @@ impl Traffic {
         (way, message, experiment(&mut self.random))
     }
 
-    /// A 45, and its way.
+    /// A 45 or, half of the time if there is a combined port, a 46, and its way.
     pub fn value(&mut self, table: &Table) -> (Way, Vec<u8>) {
-        self.of_sort(Sort::Value, table)
+        let has_combined = table.ports().any(|port| combination(table, port).is_some());
+        if has_combined && self.random.once_in(2) {
+            self.of_sort(Sort::CombinedValue, table)
+        } else {
+            self.of_sort(Sort::Value, table)
+        }
     }
 
     fn of_sort(&mut self, sort: Sort, table: &Table) -> (Way, Vec<u8>) {
@@ -82,6 +90,14 @@ impl Traffic {
             Sort::Setup => self.virtual_setup(table),
             Sort::Command => self.command(table),
             Sort::Feedback => self.feedback(table),
+            Sort::List => self.list(table),
+            Sort::RefusedList => self.refused_list(table),
+            Sort::CombinedSetup => {
+                let values = [self.present(table).into(), self.random.one_of(&OTHER_SUBS)];
+                (Way::Down, compose(Way::Down, Form::CombinedSetup, &values, &[]))
+            }
+            Sort::CombinedAnswer => self.combined_answer(table),
+            Sort::CombinedValue => self.combined_value_or_before(table),
             Sort::Information => self.information(table),
             Sort::Notice => {
                 let action = self.random.one_of(&[0x30, 0x31, 0x32]);
@@ -113,7 +129,8 @@ impl Traffic {
     /// A value format, rather one that is missing.
     fn format(&mut self, table: &Table) -> (Way, Vec<u8>) {
         let port = self.rather(table, |port| {
-            mode(table, port).is_some_and(|mode| table.format(port, mode).is_none())
+            let is_missing = |&mode: &u8| table.format(port, mode).is_none();
+            modes(table, port).iter().any(is_missing)
         });
         let mode = self.mode_of(table, port);
         let datasets = match self.random.below(4) {
@@ -170,7 +187,10 @@ impl Traffic {
             table.port(port).is_some_and(|it| it.state == State::Unanswered)
         });
         let other = self.any_setup();
-        let mut setup = table.port(port).and_then(|it| it.asked).unwrap_or(other);
+        let mut setup = match table.port(port).and_then(|it| it.asked) {
+            Some(Asked::Single(setup)) => setup,
+            Some(Asked::List) | None => other,
+        };
         match self.random.below(12) {
             0 => setup.mode = other.mode,
             1 => setup.delta = other.delta,
@@ -196,28 +216,183 @@ impl Traffic {
         up(Form::PortValue, &[port.into()], &bytes)
     }
 
+    /// A 42 with sub command 1: mostly few entries, of modes that have a format and of those that other messages name.
+    fn list(&mut self, table: &Table) -> (Way, Vec<u8>) {
+        let port = self.present(table);
+        let entries = self.entries(table, port);
+        (Way::Down, self.list_message(port, &entries))
+    }
+
+    /// A 42 with sub command 1 that is refused: mostly to a port that was asked something, and with one thing wrong; or
+    /// to an absent port.
+    fn refused_list(&mut self, table: &Table) -> (Way, Vec<u8>) {
+        let port = self.rather(table, |port| table.port(port).is_some_and(|it| it.asked.is_some()));
+        let mut entries = self.entries(table, port);
+        let mut way = Way::Down;
+        let mut message = self.list_message(port, &entries);
+        match self.random.below(6) {
+            // An entry twice.
+            0..=2 => {
+                let entry = self.random.one_of(&entries);
+                let place = self.random.below(entries.len() + 1);
+                entries.insert(place, entry);
+                message.truncate(6);
+                message.extend(entries);
+                message[0] = message.len() as u8;
+            }
+            3 => message[4] = self.random.one_of(&[0, 5, 7, 255]),
+            4 => way = Way::Up,
+            _ => message[3] = self.absent(table),
+        }
+        (way, message)
+    }
+
+    /// The bytes of a 42 with sub command 1.
+    fn list_message(&mut self, port: u8, entries: &[u8]) -> Vec<u8> {
+        let combination = self.random.byte().into();
+        compose(Way::Down, Form::ModeDatasets, &[port.into(), 1, combination], entries)
+    }
+
+    /// Entries of a list, all different.
+    fn entries(&mut self, table: &Table, port: u8) -> Vec<u8> {
+        let count = match self.random.below(6) {
+            0 => self.random.between(1, List::MOST),
+            _ => self.random.between(1, 4),
+        };
+        let mut entries = Vec::new();
+        while entries.len() < count {
+            let mode = match self.random.below(16) {
+                0 => self.random.between(0, 15) as u8,
+                _ => self.random.one_of(&MODES),
+            };
+            // Mostly one that the mode's format has.
+            let datasets = table.format(port, mode).map_or(2, |format| format.datasets);
+            let dataset = match self.random.below(12) {
+                0 => self.random.between(0, 15),
+                _ => self.random.below(datasets.into()),
+            };
+            let entry = mode << 4 | dataset as u8;
+            // There may be no more of these.
+            for entry in [entry, self.random.byte()] {
+                if !entries.contains(&entry) {
+                    entries.push(entry);
+                    break;
+                }
+            }
+        }
+        entries
+    }
+
+    /// A 48, rather one that is due: with pointers to the whole list, to a part of it, or any.
+    fn combined_answer(&mut self, table: &Table) -> (Way, Vec<u8>) {
+        let list = |port| table.port(port).and_then(|it| it.list);
+        let is_due = |port| table.port(port).is_some_and(|it| it.state == State::Unanswered);
+        let port = if self.random.once_in(2) {
+            self.rather(table, |port| list(port).is_some() && is_due(port))
+        } else {
+            self.rather(table, |port| list(port).is_some())
+        };
+        let entries = list(port).map_or(1, |list| list.entries().len());
+        let whole = u16::MAX >> (List::MOST - entries);
+        let any = self.random.number() as u16;
+        let pointers = match self.random.below(16) {
+            0 => 0,
+            1 => whole << 1 | 1,
+            2 => 1 << self.random.below(List::MOST),
+            3 => any,
+            4..=6 => whole & any,
+            7 => whole >> 1,
+            _ => whole,
+        };
+        let control = self.random.byte().into();
+        up(Form::InputFormatCombined, &[port.into(), control, pointers.into()], &[])
+    }
+
+    /// A 46. If no port is combined yet, mostly what goes before it: a list, or a 48.
+    fn combined_value_or_before(&mut self, table: &Table) -> (Way, Vec<u8>) {
+        let ports: Vec<Port> = self.ports.iter().filter_map(|&port| table.port(port)).collect();
+        let has_list = ports.iter().any(|port| port.list.is_some());
+        let is_combined = |port: &Port| matches!(port.answered, Some(Answered::Combined { .. }));
+        let has_combined = ports.iter().any(is_combined);
+        if has_combined || self.random.once_in(4) {
+            self.combined_value(table)
+        } else if has_list {
+            self.combined_answer(table)
+        } else {
+            self.list(table)
+        }
+    }
+
+    /// A 46, rather one of a combined port, mostly with some of the pointers of its 48, and by the formats of its list.
+    fn combined_value(&mut self, table: &Table) -> (Way, Vec<u8>) {
+        let has_formats = |port| {
+            let list = combination(table, port).map(|(_, list)| list);
+            let is_known = |&entry: &u8| table.format(port, entry >> 4).is_some();
+            list.is_some_and(|list| list.entries().iter().all(is_known))
+        };
+        let port = if self.random.once_in(2) {
+            self.rather(table, has_formats)
+        } else {
+            self.rather(table, |port| combination(table, port).is_some())
+        };
+        let (sent, list) = combination(table, port).unwrap_or((3, List::new(&[0x00, 0x10])));
+        let format = |entry: u8| table.format(port, entry >> 4);
+        let mut pointers = match self.random.below(24) {
+            0 => 0,
+            1 => self.random.number() as u16,
+            2 => sent ^ 1 << self.random.below(List::MOST),
+            3..=11 => sent & self.random.number() as u16,
+            _ => sent,
+        };
+        // Often only those that a format fits.
+        if self.random.once_in(2) {
+            for (index, &entry) in list.entries().iter().enumerate() {
+                if format(entry).is_none_or(|it| entry & 0x0F >= it.datasets) {
+                    pointers &= !(1 << index);
+                }
+            }
+        }
+        let mut bytes = Vec::new();
+        for (index, &entry) in list.entries().iter().enumerate() {
+            if pointers >> index & 1 == 1 {
+                self.push_dataset(format(entry).map_or(0, |it| it.kind), &mut bytes);
+            }
+        }
+        self.resize_value(&mut bytes, 121);
+        up(Form::PortValueCombined, &[port.into(), pointers.into()], &bytes)
+    }
+
     /// The bytes of a value, now and then some too few or too many.
     fn value_bytes(&mut self, datasets: u8, kind: u8) -> Vec<u8> {
         let mut bytes = Vec::new();
         for _ in 0..datasets {
-            let number = float(&mut self.random).to_le_bytes();
-            match kind {
-                0 => bytes.extend(&number[..1]),
-                1 => bytes.extend(&number[2..]),
-                _ => bytes.extend(number),
-            }
+            self.push_dataset(kind, &mut bytes);
         }
+        self.resize_value(&mut bytes, 123);
+        bytes
+    }
+
+    fn push_dataset(&mut self, kind: u8, bytes: &mut Vec<u8>) {
+        let number = float(&mut self.random).to_le_bytes();
+        match kind {
+            0 => bytes.extend(&number[..1]),
+            1 => bytes.extend(&number[2..]),
+            _ => bytes.extend(number),
+        }
+    }
+
+    /// Changes how many bytes a value has now and then. There is one at least, and so many at most.
+    fn resize_value(&mut self, bytes: &mut Vec<u8>, most: usize) {
         let size = bytes.len();
         let size = match self.random.below(32) {
             0 => size + 1,
-            1 => size - 1,
+            1 => size.saturating_sub(1),
             2 => size * 2,
             3 => size / 2,
-            4 => self.random.between(1, 123),
+            4 => self.random.between(1, most),
             _ => size,
         };
-        bytes.resize(size.clamp(1, 123), 0x5A);
-        bytes
+        bytes.resize(size.clamp(1, most), 0x5A);
     }
 
     fn virtual_setup(&mut self, table: &Table) -> (Way, Vec<u8>) {
@@ -366,11 +541,11 @@ impl Traffic {
         }
     }
 
-    /// A mode: often the one that the port is in.
+    /// A mode: often one that the port is in.
     fn mode_of(&mut self, table: &Table, port: u8) -> u8 {
-        match (self.random.below(8), mode(table, port)) {
+        match (self.random.below(8), &modes(table, port)[..]) {
             (0, _) => self.random.between(0, 15) as u8,
-            (1..=4, Some(mode)) => mode,
+            (1..=4, modes @ [_, ..]) => self.random.one_of(modes),
             _ => self.random.one_of(&MODES),
         }
     }
@@ -394,7 +569,24 @@ impl Traffic {
 
 /// The mode that a port is in.
 fn mode(table: &Table, port: u8) -> Option<u8> {
-    table.port(port)?.answered.map(|setup| setup.mode)
+    table.port(port)?.answered?.mode()
+}
+
+/// The pointers and the list of a combined port.
+fn combination(table: &Table, port: u8) -> Option<(u16, List)> {
+    match table.port(port)?.answered? {
+        Answered::Combined { pointers, list } => Some((pointers, list)),
+        Answered::Single(_) => None,
+    }
+}
+
+/// The mode that a port is in or, of a combined port, the modes of its list.
+fn modes(table: &Table, port: u8) -> Vec<u8> {
+    match table.port(port).and_then(|it| it.answered) {
+        Some(Answered::Single(setup)) => vec![setup.mode],
+        Some(Answered::Combined { list, .. }) => list.entries().iter().map(|entry| entry >> 4).collect(),
+        None => Vec::new(),
+    }
 }
 
 /// A message that goes up.

@@ -5,8 +5,10 @@ use crate::way::Way;
 /// The known types that go a way.
 pub fn known_types(way: Way) -> &'static [u8] {
     match way {
-        Way::Down => &[0x01, 0x02, 0x03, 0x10, 0x11, 0x12, 0x21, 0x22, 0x41, 0x61, 0x81],
-        Way::Up => &[0x01, 0x02, 0x03, 0x04, 0x05, 0x13, 0x43, 0x44, 0x45, 0x47, 0x82],
+        Way::Down => &[0x01, 0x02, 0x03, 0x10, 0x11, 0x12, 0x21, 0x22, 0x41, 0x42, 0x61, 0x81],
+        Way::Up => &[
+            0x01, 0x02, 0x03, 0x04, 0x05, 0x13, 0x43, 0x44, 0x45, 0x46, 0x47, 0x48, 0x82,
+        ],
     }
 }
 
@@ -125,6 +127,13 @@ impl Body<'_> {
                 self.any(4);
                 self.between(0, 1);
             }
+            0x42 => {
+                self.any(1);
+                if self.listed(&[1, 1, 1, 2, 3, 4, 6]) == 1 {
+                    self.any(1);
+                    self.entries();
+                }
+            }
             0x43 => {
                 self.any(1);
                 if self.between(1, 2) == 1 {
@@ -140,6 +149,11 @@ impl Body<'_> {
                 self.any(1);
                 self.open(1, 123);
             }
+            0x46 => {
+                self.any(3);
+                self.open(1, 121);
+            }
+            0x48 => self.any(4),
             0x61 => {
                 if self.between(0, 1) == 0 {
                     self.any(1);
@@ -279,6 +293,26 @@ impl Body<'_> {
             _ => self.random.between(0, 0x1F) as u8,
         };
         self.push(feedback);
+    }
+
+    /// Mostly few entries of a list, now and then one that was there before, or none, or too many.
+    fn entries(&mut self) {
+        let count = match self.random.below(32) {
+            0 => 0,
+            1 => 17,
+            2..=9 => self.random.between(1, 16),
+            _ => self.random.between(1, 4),
+        };
+        let start = self.message.len();
+        for _ in 0..count {
+            let is_repeated = self.random.once_in(24 * count);
+            let before = self.message[start..].to_vec();
+            let entry = match before[..] {
+                [_, ..] if is_repeated => self.random.one_of(&before),
+                _ => self.random.byte(),
+            };
+            self.push(entry);
+        }
     }
 
     fn information_type(&mut self) -> u8 {
