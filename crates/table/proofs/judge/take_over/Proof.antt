@@ -5,14 +5,12 @@ use native.Mathlib.Omega.{arith}
 use mathlib.Core.Path.{_≡_, refl, sym, _∙_, ap}
 use mathlib.Core.Bool.{Bool, true, false, cond, not, _&&_, and-false}
 use mathlib.Core.List.{List}
-use mathlib.Core.Option.{Option}
 use mathlib.Core.Logic.{⊎-elim}
 use borrow.Author.Tests.{eqb-true, eqb-false, le-ltb}
-use lib.Dec.{eqb, ltb}
+use lib.Dec.{eqb}
 use Rattle.protocol.proofs.Tests.{which}
 use Rattle.rules.proofs.CellsSound.{sound-length}
 use Rattle.rules.specs.Cells.{recordAt, sound}
-use Rattle.rules.specs.Facts.{Facts}
 use Rattle.rules.specs.Judge.{takesOver, toldRefusal}
 use Rattle.rules.specs.Layout.{places, listIndex}
 use Rattle.rules.specs.Offer.{viewOfCells}
