@@ -68,7 +68,13 @@ pub fn offer(table: &mut [u32], message: &[u8], way: Way, experiment: u16) -> Ou
 pub fn value(table: &[u32], message: &[u8], way: Way, plan: &mut [u8]) -> ValueMessage
     ensures { λ r. ⌜ (length (now (plan .entry)) ≡ mostDatasets → ((number : ℕ) → datasetBy r (now (plan .exit)) (now (message .entry)) number ≡ datasetByCells (now (table .entry)) way (now (message .entry)) number) × (valueFits r ≡ true) × (length (now (plan .exit)) ≡ mostDatasets)) ⌝ }
 {
-    if plan.len() == MOST_VALUES && is_sound(table) {
+    if plan.len() != MOST_VALUES {
+        return ValueMessage::Refused {
+            number: 9,
+            place: 0,
+        };
+    }
+    if is_sound(table) {
         return value_sound(table, message, way, plan);
     }
     ValueMessage::Refused {
