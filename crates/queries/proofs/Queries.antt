@@ -1,31 +1,36 @@
 -- What the queries answer, by the cells of a place.
-use Prim.Native.Nat.{ℕ, zero, suc, _+_, _*_, _-_, _≤_, _<_}
+use Prim.Native.Nat.{ℕ, suc, _+_, _≤_, _<_}
 use native.Mathlib.Omega.{arith}
-use mathlib.Core.Path.{_≡_, refl, sym, _∙_, ap}
-use mathlib.Core.Bool.{true, false, not}
-use mathlib.Core.List.{List}
+use mathlib.Core.Path.{_≡_, sym, _∙_, ap}
+use mathlib.Core.Bool.{Bool, true, false, not, _&&_}
+use mathlib.Core.List.{List, _++_}
 use mathlib.Core.Option.{Option, none, some}
 use borrow.Author.Tests.{ne-eqb, ltb-true}
 use lib.Dec.{ltb, eqb}
-use lib.ListN.{getD}
-use Rattle.protocol.proofs.Tests.{and-left}
-use Rattle.rules.specs.Facts.{Facts, View}
-use Rattle.rules.specs.declared.Setup.{Setup}
+use lib.ListN.{length, drop, take-append-drop, length-drop}
+use lib.Seq.{drop-drop, take-all}
+use Rattle.protocol.specs.Form.{mostEntries}
+use Rattle.protocol.proofs.Tests.{and-left, and-right}
+use Rattle.rules.specs.Facts.{Asking, Answering, Facts, View}
 use Rattle.rules.specs.declared.Wiring.{Wiring}
 use Rattle.rules.specs.declared.Wiring.the-variants.{Unjoined, Joined, Virtual}
 use Rattle.rules.specs.Answer.{refused, accepted}
-use Rattle.rules.specs.Layout.{portCount, modeCount, places, stride, deviceIndex, stateIndex, askedIndex, experimentIndex, answeredIndex, formatsIndex}
+use Rattle.rules.specs.Layout.{portCount, modeCount, places, stride, deviceIndex, stateIndex, experimentIndex, formatsIndex, listIndex, takenIndex}
 use Rattle.rules.specs.Table.{viewOfTable}
-use Rattle.rules.specs.WellFormed.{setupFits, isJoinedTo, isPairWith, wiringFits}
-use Rattle.rules.specs.Cells.{firstPartner, secondPartner, formatAt, setupAt, setupFrom, wiringAt, tableAt, sound}
+use Rattle.rules.specs.WellFormed.{isJoinedTo, isPairWith, wiringFits, settingsFit}
+use Rattle.rules.specs.Cells.{firstPartner, secondPartner, formatAt, wiringAt, takenBy, listCells, listFrom, settingsAt, recordAt, tableAt, sound}
 use Rattle.rules.specs.Offer.{viewOfCells}
+use Rattle.rules.proofs.CellsSound.{same-equal, sound-length}
 use Rattle.rules.proofs.SettingsFit.{five-passed}
 use Rattle.rules.proofs.Laws.{table-sound}
 use Rattle.rules.proofs.Sound.{wiring?, wiring-fits}
-use Rattle.soundness.specs.Place.{cellOf, factsAt, wiringHere}
+use Rattle.soundness.specs.Place.{placeAtIndex, cellOf, listHere, factsAt, wiringHere}
+use Rattle.soundness.specs.Soundness.{answeredIn, cellsOfList, exactAsked, exactAnswered, exactList, exactTaken, exactSettings, soundSettings}
+use Rattle.soundness.proofs.Places.{place-size}
+use Rattle.soundness.proofs.Records.{here, some-at, device-at, wiring-at, asked-at, answered-at, list-at, state-at, experiment-at, format-at, fit}
+use Rattle.soundness.proofs.Sound.{settings-here}
 use Rattle.queries.specs.FormatAnswer.{formatFrom, formatByCells}
-use Rattle.queries.specs.PortAnswer.{portFacts, portByCells}
-use Rattle.soundness.proofs.Records.{here, some-at, device-at, wiring-at, asked-at, answered-at, state-at, experiment-at, format-at, fit, settings-listed}
+use Rattle.queries.specs.PortAnswer.{portFacts, portByCells, Lists, askedHere, answeredHere}
 
 -- ---- a sound table is not refused
 
@@ -48,24 +53,41 @@ module _ (cells : List ℕ) (unsound : sound cells ≡ false) where
   unfolding formatByCells
   format-9 port mode = rw unsound
 
--- ---- a setup
+-- ---- the lists at a place
 
--- from the three cells that start at an index of the table
-from-index : (cells : List ℕ) (i k : ℕ) → setupAt (cellOf cells i k) (cellOf cells i (k + 1)) (cellOf cells i (k + 2)) ≡ setupFrom cells (stride * i + k)
-from-index cells i k =
-    let one : stride * i + (k + 1) ≡ stride * i + k + 1 = omega arith in
-    let two : stride * i + (k + 2) ≡ stride * i + k + 2 = omega arith in
-    λ j. setupAt (cellOf cells i k) (getD cells (one j) 0) (getD cells (two j) 0)
+module _ (cells : List ℕ) (i : ℕ) (s : sound cells ≡ true) (h : i < places) where
+  abbrev place : List ℕ
+  place = placeAtIndex cells i
 
-answered-from : (cells : List ℕ) (i : ℕ) → here cells i .settings .answered ≡ setupFrom cells (stride * i + answeredIndex)
-answered-from cells i = answered-at cells i ∙ from-index cells i answeredIndex
+  size : length place ≡ stride
+  size = place-size cells i (sound-length cells s) h
 
-asked-from : (cells : List ℕ) (i : ℕ) → here cells i .settings .asked ≡ setupFrom cells (stride * i + askedIndex)
-asked-from cells i = asked-at cells i ∙ from-index cells i askedIndex
+  exact : exactSettings place ≡ true
+  unfolding soundSettings
+  exact = and-left (exactSettings place) (settingsFit (settingsAt place)) (settings-here cells s i h)
 
-pub setup-some : (m d n : ℕ) → (m ≡ 0 → ⊥) → some (record { mode = m - 1; delta = d; notify = n }) ≡ setupAt m d n
-setup-some zero d n used = absurd (used refl)
-setup-some (suc m) d n used = let back : suc m - 1 ≡ m = omega arith in λ i. some (record { mode = back i; delta = d; notify = n })
+  kept-exact : cellsOfList place listIndex ≡ listCells (here cells i .settings .list)
+  unfolding exactSettings exactList recordAt
+  kept-exact =
+      let three = and-left (exactAsked place && exactAnswered place && exactList place listIndex) (exactTaken place) exact in
+      same-equal (cellsOfList place listIndex) (listCells (listFrom place listIndex)) (and-right (exactAsked place && exactAnswered place) (exactList place listIndex) three)
+
+  taken-exact : cellsOfList place takenIndex ≡ listCells (takenBy (here cells i .settings .answered))
+  unfolding exactSettings exactTaken recordAt
+  taken-exact = same-equal (cellsOfList place takenIndex) (listCells (takenBy (answeredIn place))) (and-right (exactAsked place && exactAnswered place && exactList place listIndex) (exactTaken place) exact)
+
+  -- one after the other, to the end of the place
+  both : drop listIndex place ≡ cellsOfList place listIndex ++ cellsOfList place takenIndex
+  both =
+      sym (take-append-drop (suc mostEntries) (drop listIndex place))
+      ∙ ap (λ (l : List ℕ). cellsOfList place listIndex ++ l) (drop-drop (suc mostEntries) listIndex place ∙ sym (take-all (suc mostEntries) (drop takenIndex place) (omega (arith, length-drop takenIndex place, size))))
+
+  pub lists-stand : (answered : Option Answering) → answered ≡ answeredHere cells i → Lists cells i (listHere cells i listIndex) (takenBy answered)
+  lists-stand answered e = record {
+    size = sound-length cells s;
+    inside = h;
+    exact = both ∙ (λ j. (kept-exact ∙ ap listCells (list-at cells i)) j ++ (taken-exact ∙ ap (λ (x : Option Answering). listCells (takenBy x)) (answered-at cells i ∙ sym e)) j);
+  }
 
 -- ---- a wiring
 
@@ -97,27 +119,22 @@ module _ (cells : List ℕ) (i port : ℕ) (s : sound cells ≡ true) (h : i < p
       let fits : wiringFits (viewOfTable (tableAt cells)) port (here cells i .wiring) ≡ true = wiring-fits (tableAt cells) (table-sound cells s) port (here cells i .wiring) (ap wiring? (found ∙ some-at cells i h)) in
       small-partners (viewOfTable (tableAt cells)) port (wiringHere cells i) (sym (ap (wiringFits (viewOfTable (tableAt cells)) port) (wiring-at cells i)) ∙ fits)
 
-  pub answered-fits : setupFits (setupFrom cells (stride * i + answeredIndex)) ≡ true
-  answered-fits = sym (ap setupFits (answered-from cells i)) ∙ settings-listed cells i port s h found .answered
-
-  pub asked-fits : setupFits (setupFrom cells (stride * i + askedIndex)) ≡ true
-  asked-fits = sym (ap setupFits (asked-from cells i)) ∙ settings-listed cells i port s h found .asked
-
   -- all that is known of the port
-  pub port-at : (device state experiment : ℕ) (wiring : Wiring) (answered asked : Option Setup)
+  pub port-at : (device state experiment : ℕ) (wiring : Wiring) (answered : Option Answering) (asked : Option Asking)
       → device ≡ cellOf cells i deviceIndex
       → wiring ≡ wiringHere cells i
-      → answered ≡ setupFrom cells (stride * i + answeredIndex)
-      → asked ≡ setupFrom cells (stride * i + askedIndex)
+      → answered ≡ answeredHere cells i
+      → asked ≡ askedHere cells i
       → state ≡ cellOf cells i stateIndex
       → experiment ≡ cellOf cells i experimentIndex
-      → some (record { device = device; wiring = wiring; answered = answered; asked = asked; state = state; experiment = experiment }) ≡ portFacts (viewOfCells cells port)
+      → some (record { device = device; wiring = wiring; answered = answered; asked = asked; list = listHere cells i listIndex; state = state; experiment = experiment }) ≡ portFacts (viewOfCells cells port)
   port-at device state experiment wiring answered asked d w x y z n =
       (λ j. some (record {
         device = (d ∙ sym (device-at cells i)) j;
         wiring = (w ∙ sym (wiring-at cells i)) j;
-        answered = (x ∙ sym (answered-from cells i)) j;
-        asked = (y ∙ sym (asked-from cells i)) j;
+        answered = (x ∙ sym (answered-at cells i)) j;
+        asked = (y ∙ sym (asked-at cells i)) j;
+        list = sym (list-at cells i) j;
         state = (z ∙ sym (state-at cells i)) j;
         experiment = (n ∙ sym (experiment-at cells i)) j;
       })) ∙ sym (ap portFacts (found ∙ some-at cells i h))

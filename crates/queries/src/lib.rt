@@ -14,7 +14,7 @@ ghost use lib.ListN.{length};
 ghost use Rattle.answers.specs.Call.{inRoom, mapped, rowAfter};
 ghost use Rattle.queries.specs.FormatAnswer.{formatByCells};
 ghost use Rattle.queries.specs.FormatAnswer as FormatAnswer;
-ghost use Rattle.queries.specs.PortAnswer.{portByCells};
+ghost use Rattle.queries.specs.PortAnswer.{listsStand, portByCells};
 ghost use Rattle.queries.specs.PortAnswer as PortAnswer;
 ghost use Rattle.queries.specs.PortsAnswer.{portsByCells};
 ghost use Rattle.queries.specs.PortsAnswer as PortsAnswer;
@@ -35,7 +35,7 @@ pub fn ports(table: &[u32], ports: &mut [u8]) -> Ports
 
 // What the table says of a port, its formats left out.
 pub fn port(table: &[u32], port: u8) -> Port
-    ensures { λ r. ⌜ PortAnswer.answerOf r ≡ portByCells (now (table .entry)) port ⌝ }
+    ensures { λ r. ⌜ (PortAnswer.answerOf (now (table .entry)) r ≡ portByCells (now (table .entry)) port) × (listsStand (now (table .entry)) r) ⌝ }
 {
     if is_sound(table) {
         return port_of(table, port);

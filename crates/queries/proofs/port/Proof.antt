@@ -14,7 +14,7 @@ returns : tie.Need-returns
 returns c = search needs
 
 returns-2 : tie.Need-returns-2
-returns-2 c = let a = c .before .before .before .args in sym (port-9 (a .table .now) (sym (c .before .is-sound .ensures) ∙ c .if1 .left) (a .port))
+returns-2 c = let a = c .before .before .before .args in (sym (port-9 (a .table .now) (sym (c .before .is-sound .ensures) ∙ c .if1 .left) (a .port)), tt)
 
 pub port-spec : {M : Type 1} → statement M
 port-spec = tie.close (tie.spec is-sound-requires port-of-requires returns returns-2)
