@@ -1,6 +1,7 @@
 -- What each call gives, before it is held to the room that was lent for it.
 use Prim.Native.Nat.{ℕ}
-use mathlib.Core.Bool.{cond}
+use mathlib.Core.Path.{_≡_}
+use mathlib.Core.Bool.{Bool, true, false, cond}
 use mathlib.Core.List.{List, [], _∷_, _++_}
 use lib.Dec.{ltb}
 use lib.ListN.{length, getD}
@@ -47,6 +48,20 @@ valuesNumber lent a = callNumber (mapped length (valuesInRoom lent a))
 
 abbrev pub valuesAfter : List ℕ → Answer (List Dataset) → List ℕ
 valuesAfter lent a = lentAfter lent (mapped datasetRows (valuesInRoom lent a))
+
+abbrev pub datasetsOf : Answer (List Dataset) → List Dataset
+datasetsOf (refused n place) = []
+datasetsOf (accepted ds) = ds
+
+-- they are handed out, and so many
+abbrev pub Given : Answer (List Dataset) → ℕ → Type 0
+Given (refused n place) count = ⊥
+Given (accepted ds) count = length ds ≡ count
+
+-- where they are all finite; else 18
+abbrev pub AllOr18 : Bool → ℕ → Answer (List Dataset) → Type 0
+AllOr18 true count a = Given a count
+AllOr18 false count a = a ≡ refused 18 0
 
 -- ---- a block of a log: the totals before it are in two cells, and so are those after it
 

@@ -2,7 +2,6 @@
 use crate::way::way_of;
 use answers::refusal;
 use queries::format;
-use queries::port;
 use queries::ports;
 use queries::present::Ports;
 use table::empty;
@@ -62,12 +61,12 @@ pub extern "C" fn castanetash_ports(table: &[u32], list: &mut [u8]) -> u64
     ports_number(ports(table, list))
 }
 
-// What the table says of a port, in 14 cells.
+// What the table says of a port, in 49 cells.
 #[no_mangle]
 pub extern "C" fn castanetash_port(table: &[u32], number: u8, row: &mut [u64]) -> u64
     ensures { λ r. ⌜ (r ≡ rowNumber (now (row .entry)) (mapped portRow (portByCells (now (table .entry)) number))) × (now (row .exit) ≡ rowAfter (now (row .entry)) (mapped portRow (portByCells (now (table .entry)) number))) ⌝ }
 {
-    put_port(row, port(table, number))
+    put_port(row, table, number)
 }
 
 // What the table says of the format of a port's mode, in 5 cells.
