@@ -21,5 +21,5 @@ pub mod OpenBytes
 pub mod Offer
 pub mod Demand3
 pub mod Examples
-pub mod CombinedExamples
+pub mod SensorExamples
 pub mod Laws

@@ -13,8 +13,8 @@ use Rattle.rules.specs.Latest.{settingsOf}
 use Rattle.rules.specs.WellFormed.{listFits, wellFormed}
 use Rattle.rules.specs.History.{sinceAttached, viewOfHistory, modesOfHistory, fullHistory}
 use Rattle.rules.specs.Offer.{judgeEntry, datasetMessage}
-use Rattle.rules.specs.CombinedExamples.{CombinedExamplesHold}
+use Rattle.rules.specs.SensorExamples.{SensorExamplesHold}
 
-pub combined-examples-hold : CombinedExamplesHold
+pub sensor-examples-hold : SensorExamplesHold
 unfolding decode decodeWay decodeType decodeForm layout firstTime littleEndian types hubAttachedIo portModeInformation combinedFormatSetup effectOf isOne onesFrom onesOf pointed pointersFit pointersAmong valueLookup judge valueAt datasetOf datasetAnswer settingsOf sinceAttached viewOfHistory modesOfHistory fullHistory judgeEntry datasetMessage listFits wellFormed
-combined-examples-hold = ((refl, refl), (refl, refl), (refl, refl), (refl, refl), refl, refl, refl, refl, refl, refl, refl, refl)
+sensor-examples-hold = ((refl, refl), (refl, refl), (refl, refl), (refl, refl), (refl, refl, refl, refl), refl, refl, refl, refl, refl, refl, refl, refl)

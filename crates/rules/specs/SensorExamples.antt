@@ -2,15 +2,17 @@
 -- over to the table; and on which tables are sound.
 use Prim.Native.Nat.{ℕ, _+_}
 use mathlib.Core.Path.{_≡_}
-use mathlib.Core.Bool.{true, false}
+use mathlib.Core.Bool.{true, false, cond}
 use mathlib.Core.List.{List, [], _∷_, _++_, map}
 use mathlib.Core.Option.{Option, none, some}
+use lib.Dec.{eqb}
 use lib.IntN.{ℤ, pos, negℤ}
 use lib.ListN.{length}
 use Rattle.rules.specs.Answer.{Answer, refused}
 use Rattle.rules.specs.Effect.{setup}
-use Rattle.rules.specs.Facts.{Asking, askedSingle, askedCombined, Answering, answeredSingle, answeredCombined, Unjoined}
+use Rattle.rules.specs.Facts.{Asking, askedSingle, askedCombined, Answering, answeredSingle, answeredCombined, Format, Unjoined}
 use Rattle.rules.specs.Entries.{entryMode, entryDataset}
+use Rattle.rules.specs.Judge.{entriesRefusal}
 use Rattle.rules.specs.Latest.{namesAll}
 use Rattle.rules.specs.Learn.{wholeList}
 use Rattle.rules.specs.Offer.{Entry}
@@ -190,13 +192,25 @@ WholeLists =
 abbrev Halves : Type 0
 Halves = (entryMode 0x21 ≡ 2) × (entryDataset 0x21 ≡ 1)
 
--- one statement, `combined-examples-hold` in proofs/CombinedExamples.antt
-abbrev pub CombinedExamplesHold : Type 0
-CombinedExamplesHold =
+-- what entries are refused with by the formats of `sensor`, and how many bytes there are: 15 over all, then 17 over all, then 16
+abbrev sensorFormats : ℕ → Option Format
+sensorFormats mode = cond (eqb mode 1) (some (record { datasets = 1; kind = 0; figures = 4; decimals = 0 })) (cond (eqb mode 2) (some (record { datasets = 2; kind = 1; figures = 4; decimals = 0 })) none)
+
+abbrev EntriesRefused : Type 0
+EntriesRefused =
+    (entriesRefusal sensorFormats two 3 ≡ 0)
+    × (entriesRefusal sensorFormats (0x11 ∷ 0x30 ∷ []) 1 ≡ 15)
+    × (entriesRefusal sensorFormats (0x10 ∷ 0x22 ∷ []) 1 ≡ 17)
+    × (entriesRefusal sensorFormats two 4 ≡ 16)
+
+-- one statement, `sensor-examples-hold` in proofs/SensorExamples.antt
+abbrev pub SensorExamplesHold : Type 0
+SensorExamplesHold =
     Pointed
     × Fitting
     × WholeLists
     × Halves
+    × EntriesRefused
     × Hold handed
     × Hold takenOver
     × Hold states
