@@ -25,12 +25,12 @@ ghost use mathlib.Core.Path.{_≡_};
 ghost use mathlib.Core.Bool.{true};
 ghost use Prim.Native.Nat.{ℕ};
 ghost use lib.ListN.{length};
-ghost use Rattle.protocol.specs.Form.{mostDatasets};
 ghost use Rattle.rules.specs.Answer.{outcome};
 ghost use Rattle.rules.specs.Offer.{cellsAfter, datasetByCells, offerByCells};
 ghost use Rattle.stores.specs.Stores.{emptied};
 ghost use Rattle.table.specs.BlockAnswer.{blockAnswer, blockCells, blockFits, blockText, runOf};
 ghost use Rattle.table.specs.BlockAnswer as BlockAnswer;
+ghost use Rattle.table.specs.Combined.{inPlan};
 ghost use Rattle.values.specs.DatasetAnswer as DatasetAnswer;
 ghost use Rattle.values.specs.ValueMessage.{datasetBy, valueFits};
 ghost use Rattle.table.specs.OfferAnswer.{emptyAnswer};
@@ -64,9 +64,9 @@ pub fn offer(table: &mut [u32], message: &[u8], way: Way, experiment: u16) -> Ou
 }
 
 // What the datasets of a message are read by, as the table stands. A plan of 16 bytes is lent, in which a 0x46 has its plan
-// afterwards.
+// afterwards; a plan of any other size is answered with 9.
 pub fn value(table: &[u32], message: &[u8], way: Way, plan: &mut [u8]) -> ValueMessage
-    ensures { λ r. ⌜ (length (now (plan .entry)) ≡ mostDatasets → ((number : ℕ) → datasetBy r (now (plan .exit)) (now (message .entry)) number ≡ datasetByCells (now (table .entry)) way (now (message .entry)) number) × (valueFits r ≡ true) × (length (now (plan .exit)) ≡ mostDatasets)) ⌝ }
+    ensures { λ r. ⌜ ((number : ℕ) → datasetBy r (now (plan .exit)) (now (message .entry)) number ≡ inPlan (length (now (plan .entry))) (datasetByCells (now (table .entry)) way (now (message .entry)) number)) × (valueFits r ≡ true) × (length (now (plan .exit)) ≡ length (now (plan .entry))) ⌝ }
 {
     if plan.len() != MOST_VALUES {
         return ValueMessage::Refused {

@@ -1,5 +1,5 @@
 use borrow.Author.Needs.{needs}
-use mathlib.Core.Path.{refl, _∙_}
+use mathlib.Core.Path.{_∙_}
 use Rattle.table.proofs.dataset.Statement.{statement}
 use Rattle.table.proofs.dataset.Tie as tie
 
@@ -16,7 +16,7 @@ handed-out-requires : tie.Need-handed-out-requires
 handed-out-requires c κs = search needs
 
 returns : tie.Need-returns
-returns c = c .handed-out .ensures ∙ c .before .before .before .value .ensures refl .0 (c .before .before .before .before .before .before .before .args .number)
+returns c = c .handed-out .ensures ∙ c .before .before .before .value .ensures .0 (c .before .before .before .before .before .before .before .args .number)
 
 pub dataset-spec : {M : Type 1} → statement M
 dataset-spec =
