@@ -64,7 +64,7 @@ same-pointers p (e ∷ list) =
 same-combined : (asked : Option Asking) (p : ℕ) (list : List ℕ) → combinedState asked p list ≡ stateBy asked (some (answeredCombined p list))
 same-combined none p list = refl
 same-combined (some (askedSingle s)) p list = refl
-same-combined (some askedCombined) p list = ap (λ (b : Bool). cond b 2 3) (same-pointers p list)
+same-combined (some askedCombined) p list = ap (λ (b : Bool). cond {A = ℕ} b 2 3) (same-pointers p list)
 
 -- ---- one change more
 
