@@ -13,7 +13,7 @@ import re
 import subprocess
 import sys
 
-TOKEN = re.compile(r"[A-Za-z_\u0370-\u03ff](?:[\w'\u2080-\u2089]|-(?=[A-Za-z0-9_]))*")
+TOKEN = re.compile(r"(?<![\w'])[A-Za-z_\u0370-\u03ff](?:[\w'\u2080-\u2089]|-(?=[A-Za-z0-9_]))*")
 CAMEL = re.compile(r"^[a-z][a-z0-9_']*[A-Z]")
 DECLARED = re.compile(r"^\s*(?:let |unfoldable |abbrev |pub |pattern )*(" + TOKEN.pattern + r")(?: \{[^}]*\})* :(?:\s|$)")
 # Names with a dash that the library declares too.

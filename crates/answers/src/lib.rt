@@ -1,5 +1,7 @@
 // One convention for the answers of all calls from C and Rust: one number, and the front of what was
 // lent.
+#![tactic(auto)]
+
 ghost use Rattle.std.specs.Prelude.{◌≡◌, ◌++◌, ◌≤◌, drop, length};
 ghost use Rattle.rules.specs.Answer.{accepted, refused};
 ghost use Rattle.answers.specs.Call.{call_number, row_after, row_number};

@@ -1,5 +1,7 @@
 // Reading messages of LEGO Wireless Protocol 3.0, each function proved equal to its definition in
 // the crate `protocol`.
+#![tactic(auto)]
+
 ghost use Rattle.std.specs.Prelude.{◌≡◌, ℕ, ◌≤◌, List, length, drop};
 ghost use Rattle.protocol.specs.declared.Way.TheVariants.{Down, Up};
 ghost use Rattle.protocol.specs.Decode.{accepted, decode, decode_way, header, open_of, open_part};

@@ -1,4 +1,6 @@
 // What a message is to the port table.
+#![tactic(auto)]
+
 ghost use Rattle.std.specs.Prelude.{◌≡◌};
 ghost use Rattle.rules.specs.Effect.{effect_of, action_effect};
 

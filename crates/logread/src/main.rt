@@ -1,6 +1,8 @@
 // Prints a line for each record of a log, and the totals: `logread [FILE]` reads the file, or standard
 // input. What fails is told on standard error, in a line that names it; after that nothing more is
 // printed, so a log without totals is seen to be incomplete.
+#![tactic(auto)]
+
 mod reading;
 mod words;
 

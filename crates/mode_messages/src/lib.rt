@@ -1,4 +1,6 @@
 // Reading what a mode of a port is: 0x44.
+#![tactic(auto)]
+
 ghost use Rattle.std.specs.Prelude.{◌≡◌, ◌+◌, get_or};
 ghost use Rattle.protocol.specs.Form as Form;
 ghost use Rattle.protocol.specs.Types.{port_mode_information};

@@ -22,27 +22,27 @@ pub tested : {w : Width} (rule : ℤ → Bool) (r z : ℤ) (b : Bool) → SFits 
 tested rule r z b f e k = ap rule (sym e ∙ sym (to_z-of_z f)) ∙ sym k
 
 module _ (s : List ℕ) (start : start_byte (get_or s 4 0) ≡ true) where
-  pub speed_accepted : get_or s 5 0 ≡ 0x0_c → length s ≡ 15 → degrees (twos_complement 4 (little_endian s 6 4)) ≡ true → signed_speed (twos_complement 1 (get_or s 10 0)) ≡ true → signed_speed (twos_complement 1 (get_or s 11 0)) ≡ true
+  pub speed_accepted : get_or s 5 0 ≡ 0x0C → length s ≡ 15 → degrees (twos_complement 4 (little_endian s 6 4)) ≡ true → signed_speed (twos_complement 1 (get_or s 10 0)) ≡ true → signed_speed (twos_complement 1 (get_or s 11 0)) ≡ true
       → (leb (get_or s 12 0) 100 ≡ true) × (end_state (get_or s 13 0) ≡ true) × (leb (get_or s 14 0) 3 ≡ true)
       → decode_form Form.start_speed_for_degrees s
       ≡ accepted Form.start_speed_for_degrees
-      (natural (get_or s 3 0) ∷ natural (get_or s 4 0) ∷ natural 0x0_c ∷ integer (twos_complement 4 (little_endian s 6 4)) ∷ integer (twos_complement 1 (get_or s 10 0)) ∷ integer (twos_complement 1 (get_or s 11 0))
+      (natural (get_or s 3 0) ∷ natural (get_or s 4 0) ∷ natural 0x0C ∷ integer (twos_complement 4 (little_endian s 6 4)) ∷ integer (twos_complement 1 (get_or s 10 0)) ∷ integer (twos_complement 1 (get_or s 11 0))
       ∷ natural (get_or s 12 0) ∷ natural (get_or s 13 0) ∷ natural (get_or s 14 0) ∷ [])
   unfolding decode_form layout little_endian
   speed_accepted sub size turn left right inside = rw (eq-eqb (length s) 15 size, start, sub, turn, left, right, inside.0, inside.1, inside.2)
 
-  pub position_accepted : get_or s 5 0 ≡ 0x0_d → length s ≡ 14 → between 1 100 (get_or s 10 0) ≡ true → (leb (get_or s 11 0) 100 ≡ true) × (end_state (get_or s 12 0) ≡ true) × (leb (get_or s 13 0) 3 ≡ true)
+  pub position_accepted : get_or s 5 0 ≡ 0x0D → length s ≡ 14 → between 1 100 (get_or s 10 0) ≡ true → (leb (get_or s 11 0) 100 ≡ true) × (end_state (get_or s 12 0) ≡ true) × (leb (get_or s 13 0) 3 ≡ true)
       → decode_form Form.goto_absolute_position s
       ≡ accepted Form.goto_absolute_position
-      (natural (get_or s 3 0) ∷ natural (get_or s 4 0) ∷ natural 0x0_d ∷ integer (twos_complement 4 (little_endian s 6 4)) ∷ natural (get_or s 10 0)
+      (natural (get_or s 3 0) ∷ natural (get_or s 4 0) ∷ natural 0x0D ∷ integer (twos_complement 4 (little_endian s 6 4)) ∷ natural (get_or s 10 0)
       ∷ natural (get_or s 11 0) ∷ natural (get_or s 12 0) ∷ natural (get_or s 13 0) ∷ [])
   unfolding decode_form layout little_endian
   position_accepted sub size speed inside = rw (eq-eqb (length s) 14 size, start, sub, speed, inside.0, inside.1, inside.2)
 
-  pub positions_accepted : get_or s 5 0 ≡ 0x0_e → length s ≡ 18 → between 1 100 (get_or s 14 0) ≡ true → (leb (get_or s 15 0) 100 ≡ true) × (end_state (get_or s 16 0) ≡ true) × (leb (get_or s 17 0) 3 ≡ true)
+  pub positions_accepted : get_or s 5 0 ≡ 0x0E → length s ≡ 18 → between 1 100 (get_or s 14 0) ≡ true → (leb (get_or s 15 0) 100 ≡ true) × (end_state (get_or s 16 0) ≡ true) × (leb (get_or s 17 0) 3 ≡ true)
       → decode_form Form.goto_absolute_positions s
       ≡ accepted Form.goto_absolute_positions
-      (natural (get_or s 3 0) ∷ natural (get_or s 4 0) ∷ natural 0x0_e ∷ integer (twos_complement 4 (little_endian s 6 4)) ∷ integer (twos_complement 4 (little_endian s 10 4)) ∷ natural (get_or s 14 0)
+      (natural (get_or s 3 0) ∷ natural (get_or s 4 0) ∷ natural 0x0E ∷ integer (twos_complement 4 (little_endian s 6 4)) ∷ integer (twos_complement 4 (little_endian s 10 4)) ∷ natural (get_or s 14 0)
       ∷ natural (get_or s 15 0) ∷ natural (get_or s 16 0) ∷ natural (get_or s 17 0) ∷ [])
   unfolding decode_form layout little_endian
   positions_accepted sub size speed inside = rw (eq-eqb (length s) 18 size, start, sub, speed, inside.0, inside.1, inside.2)

@@ -1,4 +1,6 @@
 // Reading the messages on motors: 0x81 and 0x82.
+#![tactic(auto)]
+
 ghost use Rattle.std.specs.Prelude.{◌≡◌, ◌+◌, ◌≤◌, get_or, length};
 ghost use Rattle.protocol.specs.Form as Form;
 ghost use Rattle.protocol.specs.Types.{port_output_command};
@@ -49,7 +51,7 @@ fn ending_outside(s: &[u8], at: usize) -> u16
 }
 
 fn start_speed_for_degrees(s: &[u8]) -> Reading
-    requires { get_or s.now 5 0 ≡ 0x0_c }
+    requires { get_or s.now 5 0 ≡ 0x0C }
     ensures { answer_of result ≡ decode_form Form.start_speed_for_degrees s.now }
 {
     if s.len() != 15 {
@@ -88,7 +90,7 @@ fn start_speed_for_degrees(s: &[u8]) -> Reading
 }
 
 fn goto_absolute_position(s: &[u8]) -> Reading
-    requires { get_or s.now 5 0 ≡ 0x0_d }
+    requires { get_or s.now 5 0 ≡ 0x0D }
     ensures { answer_of result ≡ decode_form Form.goto_absolute_position s.now }
 {
     if s.len() != 14 {
@@ -118,7 +120,7 @@ fn goto_absolute_position(s: &[u8]) -> Reading
 }
 
 fn goto_absolute_positions(s: &[u8]) -> Reading
-    requires { get_or s.now 5 0 ≡ 0x0_e }
+    requires { get_or s.now 5 0 ≡ 0x0E }
     ensures { answer_of result ≡ decode_form Form.goto_absolute_positions s.now }
 {
     if s.len() != 18 {

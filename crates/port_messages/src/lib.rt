@@ -1,4 +1,6 @@
 // Reading the messages on a port: 0x04, 0x21, 0x22, 0x41, 0x43, 0x45, 0x47, 0x61.
+#![tactic(auto)]
+
 ghost use Rattle.std.specs.Prelude.{◌≡◌, ◌≤◌, get_or};
 ghost use Rattle.protocol.specs.Form as Form;
 ghost use Rattle.protocol.specs.Types.{hub_attached_io, port_information, virtual_port_setup};

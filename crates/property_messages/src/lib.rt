@@ -1,4 +1,6 @@
 // Reading hub properties: 0x01.
+#![tactic(auto)]
+
 ghost use Rattle.std.specs.Prelude.{◌≡◌, ◌+◌, ◌≤◌, get_or, length};
 ghost use Rattle.protocol.specs.Form as Form;
 ghost use Rattle.protocol.specs.Properties as Properties;

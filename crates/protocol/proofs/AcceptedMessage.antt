@@ -153,11 +153,11 @@ output_messages : AreMessages 0x81 port_output_command
 unfolding port_output_command layout
 output_messages sub listed =
     let P : Form → List Value → Type 0 = λ f vs. natural_at vs 2 ≡ sub → IsMessage f vs in
-    let f1 : Form = cond (eqb sub 0x0_e) Form.goto_absolute_positions Form.preset_encoders in
-    let f2 : Form = cond (eqb sub 0x0_d) Form.goto_absolute_position f1 in
-    by_test (eqb sub 0x0_c) Form.start_speed_for_degrees f2 P (λ yes p s c d l r w e u is. rw (is ∙ eqb-true sub 0x0_c yes) refl) λ no1.
-    by_test (eqb sub 0x0_d) Form.goto_absolute_position f1 P (λ yes p s c a v w e u is. rw (is ∙ eqb-true sub 0x0_d yes) refl) λ no2.
-    by_test (eqb sub 0x0_e) Form.goto_absolute_positions Form.preset_encoders P (λ yes p s c a b v w e u is. rw (is ∙ eqb-true sub 0x0_e yes) refl) λ no3 p s c l r is.
+    let f1 : Form = cond (eqb sub 0x0E) Form.goto_absolute_positions Form.preset_encoders in
+    let f2 : Form = cond (eqb sub 0x0D) Form.goto_absolute_position f1 in
+    by_test (eqb sub 0x0C) Form.start_speed_for_degrees f2 P (λ yes p s c d l r w e u is. rw (is ∙ eqb-true sub 0x0C yes) refl) λ no1.
+    by_test (eqb sub 0x0D) Form.goto_absolute_position f1 P (λ yes p s c a v w e u is. rw (is ∙ eqb-true sub 0x0D yes) refl) λ no2.
+    by_test (eqb sub 0x0E) Form.goto_absolute_positions Form.preset_encoders P (λ yes p s c a b v w e u is. rw (is ∙ eqb-true sub 0x0E yes) refl) λ no3 p s c l r is.
     rw (is ∙ only_one 0x14 sub (rw (no1, no2, no3) at listed)) refl
 
 all_messages : (way : Way) → Every AreMessages (types way)

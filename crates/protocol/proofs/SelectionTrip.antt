@@ -195,11 +195,11 @@ unfolding port_output_command layout
 output_leads = (
   omega arith,
   λ sub.
-      let f1 : Form = cond (eqb sub 0x0_e) Form.goto_absolute_positions Form.preset_encoders in
-      let f2 : Form = cond (eqb sub 0x0_d) Form.goto_absolute_position f1 in
-      either_fits 0x81 3 (eqb sub 0x0_c) Form.start_speed_for_degrees f2 (refl, (refl, (refl, (refl, tt))))
-      (either_fits 0x81 3 (eqb sub 0x0_d) Form.goto_absolute_position f1 (refl, (refl, (refl, (refl, tt))))
-      (either_fits 0x81 3 (eqb sub 0x0_e) Form.goto_absolute_positions Form.preset_encoders (refl, (refl, (refl, (refl, tt)))) (refl, (refl, (refl, (refl, tt)))))),
+      let f1 : Form = cond (eqb sub 0x0E) Form.goto_absolute_positions Form.preset_encoders in
+      let f2 : Form = cond (eqb sub 0x0D) Form.goto_absolute_position f1 in
+      either_fits 0x81 3 (eqb sub 0x0C) Form.start_speed_for_degrees f2 (refl, (refl, (refl, (refl, tt))))
+      (either_fits 0x81 3 (eqb sub 0x0D) Form.goto_absolute_position f1 (refl, (refl, (refl, (refl, tt))))
+      (either_fits 0x81 3 (eqb sub 0x0E) Form.goto_absolute_positions Form.preset_encoders (refl, (refl, (refl, (refl, tt)))) (refl, (refl, (refl, (refl, tt)))))),
 )
 
 -- of every row of a table, by its type byte and its type

@@ -287,7 +287,7 @@ information_type n = either (up_to 5) (one_of (7 ∷ 8 ∷ 0x80 ∷ [])) n
 
 -- 03: 00 or FF
 unfoldable pub alert_status : Rule
-alert_status n = one_of (0x00 ∷ 0x_ff ∷ []) n
+alert_status n = one_of (0x00 ∷ 0xFF ∷ []) n
 
 -- a name has up to 11 bytes, a symbol up to 5
 unfoldable pub longest_mode_text : ℕ → ℕ
@@ -322,7 +322,7 @@ position = signed 4 any_signed
 
 -- 82: a port and its feedback, the five bits of document 002
 unfoldable pub feedback : List ℕ → ℕ → Bool
-feedback run i = cond (eqb (i % 2) 0) true (up_to 0x1_f (get_or run i 0))
+feedback run i = cond (eqb (i % 2) 0) true (up_to 0x1F (get_or run i 0))
 
 abbrev pub feedback_pairs : Run
 feedback_pairs = items 2 feedback
@@ -340,11 +340,11 @@ most_entries = 16
 
 -- LPF2-Boot
 abbrev pub boot_string : List ℕ
-boot_string = 0x4_c ∷ 0x50 ∷ 0x46 ∷ 0x32 ∷ 0x2_d ∷ 0x42 ∷ 0x6_f ∷ 0x6_f ∷ 0x74 ∷ []
+boot_string = 0x4C ∷ 0x50 ∷ 0x46 ∷ 0x32 ∷ 0x2D ∷ 0x42 ∷ 0x6F ∷ 0x6F ∷ 0x74 ∷ []
 
 -- Lock Mem
 abbrev pub lock_string : List ℕ
-lock_string = 0x4_c ∷ 0x6_f ∷ 0x63 ∷ 0x6_b ∷ 0x20 ∷ 0x4_d ∷ 0x65 ∷ 0x6_d ∷ []
+lock_string = 0x4C ∷ 0x6F ∷ 0x63 ∷ 0x6B ∷ 0x20 ∷ 0x4D ∷ 0x65 ∷ 0x6D ∷ []
 
 abbrev only : List Field → Layout
 only fs = record { fields = fs; rest = nothing }

@@ -46,7 +46,7 @@ hub_properties way =
     always (cond (carries operation) (payload property) Form.property_command)
 
 unfoldable pub down_action : Rule
-down_action n = either (between 0x01 0x06) (one_of (0x2_f ∷ [])) n
+down_action n = either (between 0x01 0x06) (one_of (0x2F ∷ [])) n
 
 abbrev pub up_action : Rule
 up_action n = between 0x30 0x32 n
@@ -92,10 +92,10 @@ virtual_port_setup = select 0 (one_of (0 ∷ 1 ∷ [])) λ sub. always (cond (eq
 -- 81: port, start byte, [sub 5]
 unfoldable pub port_output_command : MessageType
 port_output_command =
-    select 2 (one_of (0x0_c ∷ 0x0_d ∷ 0x0_e ∷ 0x14 ∷ [])) λ sub.
+    select 2 (one_of (0x0C ∷ 0x0D ∷ 0x0E ∷ 0x14 ∷ [])) λ sub.
     always
-    (cond (eqb sub 0x0_c) Form.start_speed_for_degrees
-    (cond (eqb sub 0x0_d) Form.goto_absolute_position (cond (eqb sub 0x0_e) Form.goto_absolute_positions Form.preset_encoders)))
+    (cond (eqb sub 0x0C) Form.start_speed_for_degrees
+    (cond (eqb sub 0x0D) Form.goto_absolute_position (cond (eqb sub 0x0E) Form.goto_absolute_positions Form.preset_encoders)))
 
 -- a type byte and its type
 pub record Row : Type 0 where

@@ -2,6 +2,7 @@
 //
 // Names follow document 002. Open bytes (names, symbols, texts, values, feedback, lists of entries) are not in a
 // message: they stay where they are, in the caller's own slice.
+#![tactic(auto)]
 
 // Where a message goes: down to the hub, or up from it.
 #[derive(Drop)]
@@ -206,7 +207,7 @@ pub enum Message {
         port_a: u8,
         port_b: u8,
     },
-    // 0x81, sub command 0x0_c. `start` is the byte of Startup and Completion Information.
+    // 0x81, sub command 0x0C. `start` is the byte of Startup and Completion Information.
     StartSpeedForDegrees {
         port: u8,
         start: u8,
@@ -217,7 +218,7 @@ pub enum Message {
         end_state: u8,
         profile: u8,
     },
-    // 0x81, sub command 0x0_d
+    // 0x81, sub command 0x0D
     GotoAbsolutePosition {
         port: u8,
         start: u8,
@@ -227,7 +228,7 @@ pub enum Message {
         end_state: u8,
         profile: u8,
     },
-    // 0x81, sub command 0x0_e
+    // 0x81, sub command 0x0E
     GotoAbsolutePositions {
         port: u8,
         start: u8,

@@ -1,4 +1,6 @@
 // What a port table says of its ports, of one of them, and of a mode's format. Cells that are not sound are refused with 9.
+#![tactic(auto)]
+
 pub mod present;
 pub mod query;
 

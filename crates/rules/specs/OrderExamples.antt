@@ -11,7 +11,7 @@ use Rattle.rules.specs.Offer.{Entry, offer_by_cells, cells_after, view_of_cells}
 
 -- a 41 to a port
 abbrev pub asked_at : ℕ → Entry
-asked_at port = down (0x0_a ∷ 0x00 ∷ 0x41 ∷ port ∷ 0x02 ∷ 0x01 ∷ 0x00 ∷ 0x00 ∷ 0x00 ∷ 0x01 ∷ [])
+asked_at port = down (0x0A ∷ 0x00 ∷ 0x41 ∷ port ∷ 0x02 ∷ 0x01 ∷ 0x00 ∷ 0x00 ∷ 0x00 ∷ 0x01 ∷ [])
 
 -- 41, both forms of 42, 44, 47 and 48; 41 the wrong way, and nothing at all, both of which reading refuses
 abbrev inside : List Entry
@@ -22,7 +22,7 @@ inside =
     ∷ format 2 1 2
     ∷ answered 2 1 1
     ∷ up (0x07 ∷ 0x00 ∷ 0x48 ∷ 0x00 ∷ 0x00 ∷ 0x00 ∷ 0x00 ∷ [])
-    ∷ up (0x0_a ∷ 0x00 ∷ 0x41 ∷ 0x00 ∷ 0x02 ∷ 0x01 ∷ 0x00 ∷ 0x00 ∷ 0x00 ∷ 0x01 ∷ [])
+    ∷ up (0x0A ∷ 0x00 ∷ 0x41 ∷ 0x00 ∷ 0x02 ∷ 0x01 ∷ 0x00 ∷ 0x00 ∷ 0x00 ∷ 0x01 ∷ [])
     ∷ up []
     ∷ []
 
@@ -37,7 +37,7 @@ Conditions =
     -- ports differ or not; they differ from those of what reading refuses
     × (ports_differ (asked_at 0) (answered 2 1 1) ≡ false)
     × (ports_differ (asked_at 1) (answered 2 1 1) ≡ true)
-    × (ports_differ (asked_at 0) (up (0x0_a ∷ 0x00 ∷ 0x41 ∷ 0x00 ∷ [])) ≡ true)
+    × (ports_differ (asked_at 0) (up (0x0A ∷ 0x00 ∷ 0x41 ∷ 0x00 ∷ [])) ≡ true)
 
 -- cells after messages, in the order in which they were sent; and so those of a table that began empty
 abbrev pub cells_through : List ℕ → List Entry → List ℕ

@@ -43,7 +43,7 @@ combined = listed ++ (taken 3 ∷ [])
 
 -- both values, of which -128 comes first
 abbrev both : Entry
-both = values 3 (0x80 ∷ 0x_fe ∷ 0x_ff ∷ [])
+both = values 3 (0x80 ∷ 0xFE ∷ 0xFF ∷ [])
 
 abbrev minus : ℕ → ℤ
 minus n = neg_ℤ (pos n)
@@ -60,7 +60,7 @@ handed =
     ∷ hands combined both 0 (said 1 2 9 128)
     ∷ hands combined both 1 (said 2 2 9 2)
     ∷ hands combined both 2 (refused 17 0)
-    ∷ hands combined (values 2 (0x_fe ∷ 0x_ff ∷ [])) 0 (said 2 2 9 2)
+    ∷ hands combined (values 2 (0xFE ∷ 0xFF ∷ [])) 0 (said 2 2 9 2)
     ∷ []
 
 -- a 46 is read by the list that its 48 took over, also after a new list and after a 48 that is refused; a second 48 takes the new one
@@ -69,7 +69,7 @@ taken_over =
     hands (combined ++ (list (0x21 ∷ []) ∷ [])) both 0 (said 1 1 0 128)
     ∷ refuses (combined ++ (list (0x21 ∷ []) ∷ [])) (taken 3) 21
     ∷ hands (combined ++ (list (0x21 ∷ []) ∷ taken 3 ∷ [])) both 0 (said 1 1 0 128)
-    ∷ hands (combined ++ (list (0x21 ∷ []) ∷ taken 1 ∷ [])) (values 1 (0x_fe ∷ 0x_ff ∷ [])) 0 (said 2 2 0 2)
+    ∷ hands (combined ++ (list (0x21 ∷ []) ∷ taken 1 ∷ [])) (values 1 (0xFE ∷ 0xFF ∷ [])) 0 (said 2 2 0 2)
     ∷ refuses (combined ++ (list (0x21 ∷ []) ∷ taken 1 ∷ [])) both 21
     ∷ []
 
@@ -117,9 +117,9 @@ unread =
     refuses (sensor ++ (list (0x11 ∷ 0x30 ∷ []) ∷ taken 3 ∷ [])) (values 3 (0x80 ∷ [])) 15
     ∷ refuses (sensor ++ (list (0x11 ∷ 0x30 ∷ []) ∷ taken 3 ∷ [])) (values 1 (0x80 ∷ [])) 17
     ∷ refuses (sensor ++ (list (0x10 ∷ 0x22 ∷ []) ∷ taken 3 ∷ [])) (values 3 (0x80 ∷ [])) 17
-    ∷ refuses combined (values 3 (0x80 ∷ 0x_fe ∷ [])) 16
-    ∷ refuses combined (values 3 (0x80 ∷ 0x_fe ∷ 0x_ff ∷ 0x00 ∷ [])) 16
-    ∷ refuses combined (values 1 (0x80 ∷ 0x_fe ∷ 0x_ff ∷ [])) 16
+    ∷ refuses combined (values 3 (0x80 ∷ 0xFE ∷ [])) 16
+    ∷ refuses combined (values 3 (0x80 ∷ 0xFE ∷ 0xFF ∷ 0x00 ∷ [])) 16
+    ∷ refuses combined (values 1 (0x80 ∷ 0xFE ∷ 0xFF ∷ [])) 16
     ∷ []
 
 -- ---- tables: one port with what was answered, what was asked, its list, the state

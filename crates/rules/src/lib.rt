@@ -1,5 +1,7 @@
 // The rules of the port table and the reader without a table: the types that definitions and code share, the layout of
 // the table, definitions and laws. No function.
+#![tactic(auto)]
+
 pub mod layout;
 
 // An input format setup, asked for by a 0x41 or answered by a 0x47.
@@ -32,7 +34,7 @@ pub enum Wiring {
 #[derive(Drop)]
 pub enum Change {
     // 0x21, 0x22, a 0x42 with another sub command than 1, 0x43, a 0x44 with another information type than
-    // 0x80, and a 0x81 with sub command 0x0_d: nothing that is kept.
+    // 0x80, and a 0x81 with sub command 0x0D: nothing that is kept.
     Unchanged,
     // 0x44, information type 0x80
     Formatted { mode: u8, format: Format },
@@ -86,7 +88,7 @@ pub enum Effect {
     },
     // 0x02 up, 0x30 to 0x32
     Empty,
-    // 0x81, sub commands 0x0_c, 0x0_e and 0x14: nothing that is kept, and for a virtual port only.
+    // 0x81, sub commands 0x0C, 0x0E and 0x14: nothing that is kept, and for a virtual port only.
     ToVirtual {
         port: u8,
     },

@@ -267,19 +267,19 @@ not_encoders false false false x r = refl
 
 module _ (b : ℕ) (x r : Encoded) where
   abbrev commands : Form → ℕ → Encoded
-  commands f = led (0x0_c ∷ 0x0_d ∷ 0x0_e ∷ 0x14 ∷ []) (λ e. command_form (eqb e 0x0_c) (eqb e 0x0_d) (eqb e 0x0_e)) f x r
+  commands f = led (0x0C ∷ 0x0D ∷ 0x0E ∷ 0x14 ∷ []) (λ e. command_form (eqb e 0x0C) (eqb e 0x0D) (eqb e 0x0E)) f x r
 
-  degrees_value : commands Form.start_speed_for_degrees b ≡ cond (eqb b 0x0_c) x r
-  degrees_value = by_value (commands Form.start_speed_for_degrees) b 0x0_c x r refl (λ no. rw no (not_degrees (eqb b 0x0_d) (eqb b 0x0_e) (eqb b 0x14) x r))
+  degrees_value : commands Form.start_speed_for_degrees b ≡ cond (eqb b 0x0C) x r
+  degrees_value = by_value (commands Form.start_speed_for_degrees) b 0x0C x r refl (λ no. rw no (not_degrees (eqb b 0x0D) (eqb b 0x0E) (eqb b 0x14) x r))
 
-  position_value : commands Form.goto_absolute_position b ≡ cond (eqb b 0x0_d) x r
-  position_value = by_value (commands Form.goto_absolute_position) b 0x0_d x r refl (λ no. rw no (not_position (eqb b 0x0_c) (eqb b 0x0_e) (eqb b 0x14) x r))
+  position_value : commands Form.goto_absolute_position b ≡ cond (eqb b 0x0D) x r
+  position_value = by_value (commands Form.goto_absolute_position) b 0x0D x r refl (λ no. rw no (not_position (eqb b 0x0C) (eqb b 0x0E) (eqb b 0x14) x r))
 
-  positions_value : commands Form.goto_absolute_positions b ≡ cond (eqb b 0x0_e) x r
-  positions_value = by_value (commands Form.goto_absolute_positions) b 0x0_e x r refl (λ no. rw no (not_positions (eqb b 0x0_c) (eqb b 0x0_d) (eqb b 0x14) x r))
+  positions_value : commands Form.goto_absolute_positions b ≡ cond (eqb b 0x0E) x r
+  positions_value = by_value (commands Form.goto_absolute_positions) b 0x0E x r refl (λ no. rw no (not_positions (eqb b 0x0C) (eqb b 0x0D) (eqb b 0x14) x r))
 
   encoders_value : commands Form.preset_encoders b ≡ cond (eqb b 0x14) x r
-  encoders_value = by_value (commands Form.preset_encoders) b 0x14 x r refl (λ no. rw no (not_encoders (eqb b 0x0_c) (eqb b 0x0_d) (eqb b 0x0_e) x r))
+  encoders_value = by_value (commands Form.preset_encoders) b 0x14 x r refl (λ no. rw no (not_encoders (eqb b 0x0C) (eqb b 0x0D) (eqb b 0x0E) x r))
 
 -- ---- combined mode
 
@@ -480,9 +480,9 @@ selects Form.port_value vs a = going_up Form.port_value vs true 0 (λ opens. ref
 selects Form.input_format vs a = going_up Form.input_format vs true 0 (λ opens. refl) (λ opens. refl)
 selects Form.virtual_disconnect vs a = going_down Form.virtual_disconnect vs (eqb (natural_at vs 0) 0) 3 (λ opens. disconnect_value (natural_at vs 0) (encode_form Form.virtual_disconnect vs opens) (refused 7 3)) (λ opens. refl)
 selects Form.virtual_connect vs a = going_down Form.virtual_connect vs (eqb (natural_at vs 0) 1) 3 (λ opens. connect_value (natural_at vs 0) (encode_form Form.virtual_connect vs opens) (refused 7 3)) (λ opens. refl)
-selects Form.start_speed_for_degrees vs a = going_down Form.start_speed_for_degrees vs (eqb (natural_at vs 2) 0x0_c) 5 (λ opens. degrees_value (natural_at vs 2) (encode_form Form.start_speed_for_degrees vs opens) (refused 7 5)) (λ opens. refl)
-selects Form.goto_absolute_position vs a = going_down Form.goto_absolute_position vs (eqb (natural_at vs 2) 0x0_d) 5 (λ opens. position_value (natural_at vs 2) (encode_form Form.goto_absolute_position vs opens) (refused 7 5)) (λ opens. refl)
-selects Form.goto_absolute_positions vs a = going_down Form.goto_absolute_positions vs (eqb (natural_at vs 2) 0x0_e) 5 (λ opens. positions_value (natural_at vs 2) (encode_form Form.goto_absolute_positions vs opens) (refused 7 5)) (λ opens. refl)
+selects Form.start_speed_for_degrees vs a = going_down Form.start_speed_for_degrees vs (eqb (natural_at vs 2) 0x0C) 5 (λ opens. degrees_value (natural_at vs 2) (encode_form Form.start_speed_for_degrees vs opens) (refused 7 5)) (λ opens. refl)
+selects Form.goto_absolute_position vs a = going_down Form.goto_absolute_position vs (eqb (natural_at vs 2) 0x0D) 5 (λ opens. position_value (natural_at vs 2) (encode_form Form.goto_absolute_position vs opens) (refused 7 5)) (λ opens. refl)
+selects Form.goto_absolute_positions vs a = going_down Form.goto_absolute_positions vs (eqb (natural_at vs 2) 0x0E) 5 (λ opens. positions_value (natural_at vs 2) (encode_form Form.goto_absolute_positions vs opens) (refused 7 5)) (λ opens. refl)
 selects Form.preset_encoders vs a = going_down Form.preset_encoders vs (eqb (natural_at vs 2) 0x14) 5 (λ opens. encoders_value (natural_at vs 2) (encode_form Form.preset_encoders vs opens) (refused 7 5)) (λ opens. refl)
 selects Form.output_feedback vs a = going_up Form.output_feedback vs true 0 (λ opens. refl) (λ opens. refl)
 selects Form.combined_setup vs a = going_down Form.combined_setup vs (setup (natural_at vs 1)) 4 (λ opens. setup_value (encode_form Form.combined_setup vs opens) (refused 7 4) (natural_at vs 1)) (λ opens. refl)

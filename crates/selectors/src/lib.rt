@@ -1,5 +1,7 @@
 // Whether a form goes this way and is written at all, and whether its selectors lead to it: refusals 5,
 // 23 and 7.
+#![tactic(auto)]
+
 ghost use Rattle.std.specs.Prelude.{◌≡◌, List, [], ◌∷◌, ℕ};
 ghost use Rattle.protocol.specs.Rule.{one_of};
 ghost use Rattle.protocol.specs.Form.{form_number};

@@ -1,4 +1,6 @@
 // The fields of a message with their values, as slots: what stands at each place of it.
+#![tactic(auto)]
+
 pub mod form;
 
 ghost use Rattle.std.specs.Prelude.{◌≡◌, ◌≤◌, length};

@@ -1,6 +1,8 @@
 // Whether a slice of cells is a sound table, and where a port's record stands in it. Tests of cells are joined by `&` and
 // `|`, and a loop over the cells of a place goes to its end, so that it needs no branches; what several tests say is joined
 // by `&&`, which costs less than keeping each answer.
+#![tactic(auto)]
+
 ghost use Rattle.std.specs.Prelude.{◌≡◌, ◌<◌, length};
 ghost use Rattle.rules.specs.Layout.{places, stride, table_size};
 ghost use Rattle.rules.specs.Table.{view_of_table};

@@ -1,5 +1,7 @@
 // The port table of one hub in `TABLE_SIZE` cells that the caller lends, and values read by it. Any other
 // slice of cells is refused with 9, and stays as it is.
+#![tactic(auto)]
+
 pub mod block;
 mod combined;
 mod datasets;

@@ -16,8 +16,8 @@ some_dataset n = record { port = 7; mode = 2; state = 1; experiment = 9; value =
 -- -3, and the float -1
 abbrev pub DatasetRows : Type 0
 DatasetRows =
-    (dataset_row (some_dataset (whole (neg_ℤ (pos 3)))) ≡ 0 ∷ 0x_fffffffffffffffd ∷ 7 ∷ 2 ∷ 1 ∷ 9 ∷ [])
-    × (dataset_row (some_dataset (float (fin true 1 (pos 0)))) ≡ 1 ∷ 0x_bf800000 ∷ 7 ∷ 2 ∷ 1 ∷ 9 ∷ [])
+    (dataset_row (some_dataset (whole (neg_ℤ (pos 3)))) ≡ 0 ∷ 0xFFFFFFFFFFFFFFFD ∷ 7 ∷ 2 ∷ 1 ∷ 9 ∷ [])
+    × (dataset_row (some_dataset (float (fin true 1 (pos 0)))) ≡ 1 ∷ 0xBF800000 ∷ 7 ∷ 2 ∷ 1 ∷ 9 ∷ [])
 
 -- device 61, asked by the list 10, 21, 22 with number 9
 abbrev listed_port : Option Answering → ℕ → PortFacts

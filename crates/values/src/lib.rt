@@ -1,4 +1,6 @@
 // What is read of a value's bytes by its format, and the experiment number that it carries.
+#![tactic(auto)]
+
 pub mod bits;
 pub mod datasets;
 pub mod experiment;

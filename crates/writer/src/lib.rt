@@ -1,4 +1,6 @@
 // Writing one message.
+#![tactic(auto)]
+
 mod open;
 mod put;
 
