@@ -15,7 +15,7 @@ use table::block::Block;
 use table::read_block;
 
 // How far the reading is.
-#[derive(Drop)]
+#[derive(Clone, Copy)]
 struct Progress {
     // Bytes of the input that were not worked through yet; they stand at the start of the buffer.
     held: usize,
@@ -28,7 +28,7 @@ struct Progress {
 }
 
 // What was worked through: how many bytes, and the totals.
-#[derive(Drop)]
+#[derive(Clone, Copy)]
 struct Taken {
     taken: usize,
     lines: u64,
@@ -38,7 +38,7 @@ struct Taken {
 }
 
 // What one read gave.
-#[derive(Drop)]
+#[derive(Clone, Copy)]
 enum Fetched {
     Bytes { count: usize },
     End,

@@ -5,7 +5,7 @@
 #![tactic(auto)]
 
 // Where a message goes: down to the hub, or up from it.
-#[derive(Drop)]
+#[derive(Clone, Copy)]
 pub enum Way {
     Down,
     Up,
@@ -13,7 +13,7 @@ pub enum Way {
 
 // The possible mode combinations of a port (0x43, information type 2): how many entries were sent,
 // one to eight, and the entries. Those past the count are 0.
-#[derive(Drop)]
+#[derive(Clone, Copy)]
 pub struct Combinations {
     pub count: u8,
     pub entry0: u16,
@@ -28,7 +28,7 @@ pub struct Combinations {
 
 // One message, a case for each form. Where a selector has one value only in a form, the case stands
 // for it; where it has several, it is a field.
-#[derive(Drop)]
+#[derive(Clone, Copy)]
 pub enum Message {
     // 0x01, without payload: Enable, Disable, Reset, Request.
     PropertyCommand {
@@ -272,14 +272,14 @@ pub enum Message {
 }
 
 // What reading gives: the message, or the number and place of the refusal.
-#[derive(Drop)]
+#[derive(Clone, Copy)]
 pub enum Reading {
     Accepted(Message),
     Refused { number: u8, place: u16 },
 }
 
 // What writing gives: the message's length, or the number and place of the refusal.
-#[derive(Drop)]
+#[derive(Clone, Copy)]
 pub enum Written {
     Length(u16),
     Refused { number: u8, place: u16 },

@@ -19,7 +19,7 @@ use soundness::place::find;
 use values::format::format_in;
 
 // The latest asking since the port was attached: a 0x41, or a list, which the port keeps; or that there was none.
-#[derive(Drop)]
+#[derive(Clone, Copy)]
 pub enum LatestAsking {
     Never,
     Single { setup: Setup },
@@ -28,7 +28,7 @@ pub enum LatestAsking {
 
 // The latest answer since the port was attached: a 0x47, or a 0x48, of which the port has the list that it took over; or that
 // there was none.
-#[derive(Drop)]
+#[derive(Clone, Copy)]
 pub enum LatestAnswer {
     Never,
     Single { setup: Setup },
@@ -37,7 +37,7 @@ pub enum LatestAnswer {
 
 // What is known of a port, its formats left out; the experiment number is the one that came with the latest asking, 0
 // before any. Its lists stand in the cells of its place.
-#[derive(Drop)]
+#[derive(Clone, Copy)]
 pub enum Port {
     Absent,
     Present {
@@ -56,7 +56,7 @@ pub enum Port {
 }
 
 // The value format of a port's mode.
-#[derive(Drop)]
+#[derive(Clone, Copy)]
 pub enum ModeFormat {
     Unknown,
     Known { format: Format },

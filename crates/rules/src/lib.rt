@@ -5,7 +5,7 @@
 pub mod layout;
 
 // An input format setup, asked for by a 0x41 or answered by a 0x47.
-#[derive(Drop)]
+#[derive(Clone, Copy)]
 pub struct Setup {
     pub mode: u8,
     pub delta: u32,
@@ -13,7 +13,7 @@ pub struct Setup {
 }
 
 // A mode's value format (0x44, information type 0x80).
-#[derive(Drop)]
+#[derive(Clone, Copy)]
 pub struct Format {
     pub datasets: u8,
     pub kind: u8,
@@ -23,7 +23,7 @@ pub struct Format {
 
 // Document 01's terms: a physical port is unjoined, or joined to the virtual port that is its partner; a virtual port's
 // partners are its two members, as they were sent.
-#[derive(Drop)]
+#[derive(Clone, Copy)]
 pub enum Wiring {
     Unjoined,
     Joined { port: u8 },
@@ -31,7 +31,7 @@ pub enum Wiring {
 }
 
 // What a message tells a port, which has to be present.
-#[derive(Drop)]
+#[derive(Clone, Copy)]
 pub enum Change {
     // 0x21, 0x22, a 0x42 with another sub command than 1, 0x43, a 0x44 with another information type than
     // 0x80, and a 0x81 with sub command 0x0D: nothing that is kept.
@@ -49,7 +49,7 @@ pub enum Change {
 }
 
 // What a message is to the port table.
-#[derive(Drop)]
+#[derive(Clone, Copy)]
 pub enum Effect {
     // Changes nothing and names no port that has to be present.
     Nothing,
@@ -103,7 +103,7 @@ pub enum Effect {
 
 // What a value of a port is read by: the mode that the hub last answered, the port's state, the experiment number that the
 // value carries and that mode's format; or why it can't be read: 10, 14 or 15.
-#[derive(Drop)]
+#[derive(Clone, Copy)]
 pub enum ValueLookup {
     Found {
         mode: u8,

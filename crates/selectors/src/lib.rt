@@ -15,7 +15,7 @@ use hub_messages::rule::between;
 use protocol::{Message, Way};
 
 // Which refusal comes of them; chosen where none does.
-#[derive(Drop)]
+#[derive(Clone, Copy)]
 pub enum Choice {
     Chosen,
     Refused { number: u8, place: u16 },

@@ -13,7 +13,7 @@ use hub_messages::rule::{
 };
 
 // What stands at one place of a message: a field with its value, a fixed string, or nothing.
-#[derive(Drop)]
+#[derive(Clone, Copy)]
 pub enum Slot {
     Nothing,
     // one byte: of any value, up to a bound, between bounds, of a list

@@ -18,7 +18,7 @@ use rules::Effect;
 use stores::clear;
 
 // What offering a message gives: it is accepted, or the number and place of the refusal.
-#[derive(Drop)]
+#[derive(Clone, Copy)]
 pub enum Outcome {
     Accepted,
     Refused { number: u8, place: u16 },

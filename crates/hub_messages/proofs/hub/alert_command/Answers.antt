@@ -1,0 +1,14 @@
+use borrow.Author.Rules.{rules}
+use borrow.Author.Tests.{eq-eqb, ne_eqb}
+use Rattle.protocol.specs.Number.{little_endian}
+use Rattle.protocol.specs.Form.{layout}
+use Rattle.protocol.specs.Decode.{decode_form}
+use Rattle.hub_messages.proofs.hub.alert_command.Goals as goal
+
+pub returns-then-s-ne5 : goal.returns-then-s-ne5
+unfolding decode_form layout little_endian
+returns-then-s-ne5 c = simp (c.wrong_size.ensures, ne_eqb _ _ c.if-s-ne5.true)
+
+pub returns : goal.returns
+unfolding decode_form layout little_endian
+returns c = simp (eq-eqb _ _ c.if-s-ne5.false)

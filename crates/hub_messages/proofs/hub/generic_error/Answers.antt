@@ -1,0 +1,19 @@
+use mathlib.Core.Path.{sym, ◌∙◌}
+use borrow.Author.Tests.{eq-eqb, ne_eqb, not-true, not-false}
+use Rattle.protocol.specs.Number.{little_endian}
+use Rattle.protocol.specs.Form.{layout}
+use Rattle.protocol.specs.Decode.{decode_form}
+use borrow.Author.Rules.{rules}
+use Rattle.hub_messages.proofs.hub.generic_error.Goals as goal
+
+pub returns-then-s-ne5 : goal.returns-then-s-ne5
+unfolding decode_form layout little_endian
+returns-then-s-ne5 c = simp (c.wrong_size.ensures, ne_eqb _ _ c.if-s-ne5.true)
+
+pub returns-then-not-between : goal.returns-then-not-between
+unfolding decode_form layout little_endian
+returns-then-not-between c = simp (c.outside.ensures, sym c.between.ensures ∙ c.if-not-between.true, eq-eqb _ _ c.if-s-ne5.false)
+
+pub returns : goal.returns
+unfolding decode_form layout little_endian
+returns c = simp (sym c.between.ensures ∙ c.if-not-between.false, eq-eqb _ _ c.if-s-ne5.false)

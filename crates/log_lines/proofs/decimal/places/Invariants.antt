@@ -1,0 +1,9 @@
+use native.Mathlib.Omega.{arith}
+use Rattle.log_rules.proofs.Decimals.{Counted, counted_start, counted_few, counted_more, counted_all}
+use Rattle.log_lines.proofs.decimal.places.Given as goal
+
+abbrev pub invariant-loop-rest : goal.invariant-loop-rest
+invariant-loop-rest l = Counted l.n l.k l.rest
+
+abbrev pub decreases-loop-rest : goal.decreases-loop-rest
+decreases-loop-rest l = l.rest

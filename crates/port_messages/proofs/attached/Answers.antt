@@ -1,0 +1,18 @@
+use borrow.Author.Rules.{rules}
+use borrow.Author.Tests.{eq-eqb, ne_eqb}
+use mir.Facts.{to_z-of_z}
+use mir.Syntax.{w32}
+use Rattle.protocol.specs.Number.{little_endian}
+use Rattle.protocol.specs.Form.{layout}
+use Rattle.protocol.specs.Decode.{decode_form}
+use Rattle.port_messages.proofs.attached.Goals as goal
+
+pub returns-then-s-ne15 : goal.returns-then-s-ne15
+unfolding decode_form layout little_endian
+returns-then-s-ne15 c =
+    let c1 = c in simp (c.wrong_size.ensures, ne_eqb _ _ c.if-s-ne15.true, c1.requires)
+
+pub returns : goal.returns
+unfolding decode_form layout little_endian
+returns c =
+    let c1 = c in let c2 = c in let c3 = c in let c4 = c in let c5 = c in rw (to_z-of_z {w = w32} {z = c.i32_of-2.result} (record { sfits = c.i32_of-2.type-inv }), to_z-of_z {w = w32} {z = c1.i32_of.result} (record { sfits = c1.i32_of.type-inv })) (simp (c.i32_of-2.ensures, c.u32_at-2.ensures, c1.i32_of.ensures, c2.u32_at.ensures, c3.u16_at.ensures, eq-eqb _ _ c4.if-s-ne15.false, c5.requires))

@@ -1,0 +1,15 @@
+use Rattle.protocol.specs.Number.{little_endian}
+use Rattle.protocol.specs.Decode.{decode_form}
+use Rattle.protocol.specs.Form.{layout}
+use borrow.Author.Tests.{ne_eqb, eq-eqb}
+use borrow.Author.Rules.{rules}
+use Rattle.port_messages.proofs.detached.Goals as goal
+
+pub returns-then-s-ne5 : goal.returns-then-s-ne5
+unfolding decode_form layout
+returns-then-s-ne5 c = simp (c.wrong_size.ensures, ne_eqb _ _ c.if-s-ne5.true)
+
+pub returns : goal.returns
+unfolding decode_form layout little_endian
+returns c =
+    let c1 = c in simp (eq-eqb _ _ c.if-s-ne5.false, c1.requires)

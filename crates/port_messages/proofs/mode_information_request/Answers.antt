@@ -1,0 +1,26 @@
+use mathlib.Core.Path.{sym, ◌∙◌}
+use borrow.Author.Tests.{eq-eqb, ne_eqb, le-leb, lt-leb, not-true, not-false}
+use Rattle.protocol.specs.Number.{little_endian}
+use Rattle.protocol.specs.Form.{layout}
+use Rattle.protocol.specs.Decode.{decode_form}
+use borrow.Author.Rules.{rules}
+use Rattle.port_messages.proofs.mode_information_request.Goals as goal
+
+pub returns-then-s-ne6 : goal.returns-then-s-ne6
+unfolding decode_form layout little_endian
+returns-then-s-ne6 c = simp (c.wrong_size.ensures, ne_eqb _ _ c.if-s-ne6.true)
+
+pub returns-then-mode-gt15 : goal.returns-then-mode-gt15
+unfolding decode_form layout little_endian
+returns-then-mode-gt15 c =
+    let c1 = c in simp (c.outside.ensures, lt-leb _ _ c.if-mode-gt15.true, eq-eqb _ _ c1.if-s-ne6.false)
+
+pub returns-then-not-is_information_type : goal.returns-then-not-is_information_type
+unfolding decode_form layout little_endian
+returns-then-not-is_information_type c =
+    let c1 = c in let c2 = c in let c3 = c in simp (c.outside-then-not-is_information_type.ensures, sym c1.is_information_type.ensures ∙ c.if-not-is_information_type.true, le-leb _ _ c2.if-mode-gt15.false, eq-eqb _ _ c3.if-s-ne6.false)
+
+pub returns : goal.returns
+unfolding decode_form layout little_endian
+returns c =
+    let c1 = c in let c2 = c in let c3 = c in simp (sym c1.is_information_type.ensures ∙ c.if-not-is_information_type.false, le-leb _ _ c2.if-mode-gt15.false, eq-eqb _ _ c3.if-s-ne6.false)

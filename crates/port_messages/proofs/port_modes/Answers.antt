@@ -1,0 +1,20 @@
+use borrow.Author.Tests.{eq-eqb, ne_eqb, le-leb, lt-leb}
+use Rattle.protocol.specs.Number.{little_endian}
+use Rattle.protocol.specs.Form.{layout}
+use Rattle.protocol.specs.Decode.{decode_form}
+use borrow.Author.Rules.{rules}
+use Rattle.port_messages.proofs.port_modes.Goals as goal
+
+pub returns-then-s-ne11 : goal.returns-then-s-ne11
+unfolding decode_form layout little_endian
+returns-then-s-ne11 c = simp (c.wrong_size.ensures, ne_eqb _ _ c.if-s-ne11.true)
+
+pub returns-then-capabilities-gt15 : goal.returns-then-capabilities-gt15
+unfolding decode_form layout little_endian
+returns-then-capabilities-gt15 c =
+    let c1 = c in simp (c.outside.ensures, lt-leb _ _ c.if-capabilities-gt15.true, eq-eqb _ _ c1.if-s-ne11.false)
+
+pub returns : goal.returns
+unfolding decode_form layout little_endian
+returns c =
+    let c1 = c in let c2 = c in let c3 = c in simp (c.u16_at-2.ensures, c.u16_at.ensures, le-leb _ _ c1.if-capabilities-gt15.false, eq-eqb _ _ c2.if-s-ne11.false, c3.requires)

@@ -1,0 +1,31 @@
+use Prim.Native.Nat.{◌<◌}
+use lib.ListN.{length}
+use Rattle.protocol.proofs.Selection.{too_short}
+use Rattle.protocol.specs.Decode.{decode_type}
+use Rattle.protocol.specs.Types.{virtual_port_setup}
+use mathlib.Core.Path.{sym, ◌∙◌}
+use borrow.Author.Tests.{le-ltb, ne_eqb}
+use borrow.Author.Rules.{rules}
+use Rattle.port_messages.proofs.virtual_port_setup.Goals as goal
+
+pub returns-then-s-lt4 : goal.returns-then-s-lt4
+unfolding virtual_port_setup
+returns-then-s-lt4 c =
+    let s = c.args.s.now in
+    let short : length s < 4 = c.if-s-lt4.true in
+    c.wrong_size.ensures ∙ sym (too_short virtual_port_setup s short)
+
+pub returns-in-0 : goal.returns-in-0
+unfolding virtual_port_setup decode_type
+returns-in-0 c =
+    let c1 = c in simp (c.virtual_disconnect.ensures, le-ltb _ _ c1.if-s-lt4.false, c.in-0.is)
+
+pub returns-in-1 : goal.returns-in-1
+unfolding virtual_port_setup decode_type
+returns-in-1 c =
+    let c1 = c in simp (c.virtual_connect.ensures, le-ltb _ _ c1.if-s-lt4.false, c.in-1.is)
+
+pub returns-in_default : goal.returns-in_default
+unfolding virtual_port_setup decode_type
+returns-in_default c =
+    let c1 = c in simp (c.outside.ensures, le-ltb _ _ c1.if-s-lt4.false, ne_eqb _ _ c.in-0.rest.0.1, ne_eqb _ _ c.in-0.rest.1)

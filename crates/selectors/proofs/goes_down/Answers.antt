@@ -1,0 +1,6 @@
+use borrow.Author.Rules.{rules}
+use Rattle.selectors.proofs.goes_down.Goals as goal
+
+pub returns-else-leads : goal.returns-else-leads
+returns-else-leads c =
+    rw (c.in-Down.is, c.if-leads.false)

@@ -1,0 +1,17 @@
+use Prim.Native.Nat.{◌-◌}
+use native.Mathlib.Omega.{arith}
+use mathlib.Core.Path.{◌≡◌, refl}
+use mathlib.Core.Bool.{◌&&◌}
+use lib.Dec.{eqb}
+use lib.ListN.{length, get_or, drop}
+use Rattle.soundness.specs.Soundness.{all_zeros}
+use Rattle.soundness.proofs.Loops.{joins, joined}
+use Rattle.soundness.proofs.Lists.{zeros_next, zeros_done}
+use borrow.Author.Rules.{rules}
+use Rattle.soundness.proofs.exact.are_zeros.Given as goal
+
+abbrev pub invariant-loop-k : goal.invariant-loop-k
+invariant-loop-k l = all_zeros l.cells ≡ (l.zeros && all_zeros (drop l.k l.cells))
+
+abbrev pub decreases-loop-k : goal.decreases-loop-k
+decreases-loop-k l = length l.cells - l.k

@@ -1,0 +1,14 @@
+use Prim.Native.Nat.{◌+◌, ◌-◌, ◌≤◌}
+use native.Mathlib.Omega.{arith}
+use mathlib.Core.Path.{◌≡◌, ◌∙◌}
+use borrow.Author.Rules.{rules}
+use Rattle.rules.specs.Layout.{places}
+use Rattle.soundness.specs.Place.{from_place, first_free, free_place}
+use Rattle.soundness.proofs.Places.{free_place_lem, no_free_place, free_start, free_here, free_later, free_end, step_on, step_last}
+use Rattle.soundness.proofs.place.free_place.Given as goal
+
+abbrev pub invariant-loop-place : goal.invariant-loop-place
+invariant-loop-place l = (l.place ≤ places) × (free_place l.table ≡ l.place + first_free (from_place l.table l.place))
+
+abbrev pub decreases-loop-place : goal.decreases-loop-place
+decreases-loop-place l = places - l.place

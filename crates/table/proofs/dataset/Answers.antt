@@ -1,0 +1,6 @@
+use borrow.Author.Rules.{rules}
+use mathlib.Core.Path.{◌∙◌}
+use Rattle.table.proofs.dataset.Goals as goal
+
+pub returns : goal.returns
+returns c = c.handed_out.ensures ∙ c.value-value.ensures.0 c.args.number

@@ -1,0 +1,26 @@
+use Prim.Native.Nat.{suc, ◌-◌, ◌≤◌}
+use mathlib.Core.Path.{◌≡◌, refl, sym, ◌∙◌, ap}
+use mathlib.Core.Bool.{Bool, cond}
+use native.Mathlib.Omega.{arith}
+use borrow.Author.Rules.{rules}
+use borrow.Author.Tests.{not-true, not-false}
+use lib.ListN.{length, drop, drop_of_length-le}
+use Rattle.rules.specs.Judge.{all_present, ports_named}
+use Rattle.rules.specs.Offer.{view_of_cells}
+use Rattle.table.proofs.Judging.{absent_here, present_here}
+use Rattle.table.proofs.judge.feedback.Goals as goal
+
+pub loop-i-init : goal.loop-i-init
+loop-i-init c = (omega arith, refl)
+
+pub returns-then-not-is_present : goal.returns-then-not-is_present
+returns-then-not-is_present c =
+    let c1 = c in let c2 = c in let c3 = c in sym (ap (λ (b : Bool). cond b 0 10) (c2.loop-i.invariant.1 ∙ absent_here (view_of_cells c3.args.table.now) c3.args.pairs.now c2.loop-i.i c1.loop-i-test.true (sym c.is_present.ensures ∙ c.if-not-is_present.true)))
+
+pub loop-i-preserved : goal.loop-i-preserved
+loop-i-preserved c =
+    let c1 = c in let c2 = c in let c3 = c in (search rules, c2.loop-i.invariant.1 ∙ present_here (view_of_cells c3.args.table.now) c3.args.pairs.now c2.loop-i.i c1.loop-i-test.true (sym c.is_present.ensures ∙ c.if-not-is_present.false))
+
+pub returns : goal.returns
+returns c =
+    let c1 = c in sym (ap (λ (b : Bool). cond b 0 10) (c.loop-i.invariant.1 ∙ ap (λ l. all_present (view_of_cells c1.args.table.now) (ports_named l)) (drop_of_length-le c1.args.pairs.now {i = c.loop-i.i} c.loop-i-test.false)))

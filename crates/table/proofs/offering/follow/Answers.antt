@@ -1,0 +1,71 @@
+use borrow.Author.Rules.{rules}
+use Rattle.rules.specs.OpenBytes.{opens_in}
+use Rattle.table.proofs.Offers.{tell_ready, change_ready, attach_ready, virtual_ready, detach_ready, changed_as, unchanged}
+use Rattle.table.proofs.Steps.{empty_is}
+use Rattle.table.proofs.offering.follow.Goals as goal
+
+pub tell-requires : goal.tell-requires
+tell-requires c =
+    let p = c.requires in
+    let a = c.args in
+    let cells = c.args.table.now in
+    (p.0, tell_ready cells a.message.now a.e p.2 _ _ c.in-ToPort.is, change_ready a.e a.message.now p.1 _ _ c.in-ToPort.is)
+
+pub attach-requires : goal.attach-requires
+attach-requires c =
+    let p = c.requires in
+    let a = c.args in
+    let cells = c.args.table.now in
+    (p.0, attach_ready cells a.message.now a.e p.2 _ _ c.in-Attach.is)
+
+pub attach_virtual-requires : goal.attach_virtual-requires
+attach_virtual-requires c =
+    let p = c.requires in
+    let a = c.args in
+    let cells = c.args.table.now in
+    let k = virtual_ready cells a.message.now a.e p.2 _ _ _ _ c.in-AttachVirtual.is in
+    (p.0, k.0, k.1)
+
+pub detach-requires : goal.detach-requires
+detach-requires c =
+    let p = c.requires in
+    let a = c.args in
+    let cells = c.args.table.now in
+    (p.0, detach_ready cells a.message.now a.e p.2 _ c.in-Detach.is)
+
+pub returns-in-ToPort : goal.returns-in-ToPort
+returns-in-ToPort c =
+    let a = c.args in
+    let cells = c.args.table.now in
+    changed_as cells c.tell.new.table a.message.now a.e _ c.in-ToPort.is c.tell.ensures
+
+pub returns-in-Attach : goal.returns-in-Attach
+returns-in-Attach c =
+    let a = c.args in
+    let cells = c.args.table.now in
+    changed_as cells c.attach.new.table a.message.now a.e _ c.in-Attach.is c.attach.ensures
+
+pub returns-in-AttachVirtual : goal.returns-in-AttachVirtual
+returns-in-AttachVirtual c =
+    let a = c.args in
+    let cells = c.args.table.now in
+    changed_as cells c.attach_virtual.new.table a.message.now a.e _ c.in-AttachVirtual.is c.attach_virtual.ensures
+
+pub returns-in-Detach : goal.returns-in-Detach
+returns-in-Detach c =
+    let a = c.args in
+    let cells = c.args.table.now in
+    changed_as cells c.detach.new.table a.message.now a.e _ c.in-Detach.is c.detach.ensures
+
+pub returns-in-Empty : goal.returns-in-Empty
+returns-in-Empty c =
+    let p = c.requires in
+    let a = c.args in
+    let cells = c.args.table.now in
+    changed_as cells c.clear.new.table a.message.now a.e _ c.in-Empty.is (empty_is cells c.clear.new.table p.0 c.clear.ensures)
+
+pub returns-in_default : goal.returns-in_default
+returns-in_default c =
+    let a = c.args in
+    let cells = c.args.table.now in
+    unchanged cells (opens_in a.e a.message.now) a.e c.requires.0 c.in-ToPort.keys6

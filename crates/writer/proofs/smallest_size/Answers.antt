@@ -1,0 +1,47 @@
+use Prim.Native.Nat.{◌+◌}
+use native.Mathlib.Nat.{add-zero}
+use mathlib.Core.Path.{refl, sym, ◌∙◌, ap}
+use Rattle.protocol.specs.Form.{nothing, layout}
+use Rattle.protocol.specs.Answer.{form_of}
+use Rattle.protocol.specs.Decode.{smallest_size}
+use Rattle.protocol.specs.declared.Message.{Message}
+use Rattle.writer.specs.Slots.{type_place}
+use Rattle.writer.proofs.Rests.{nothing_follows}
+use Rattle.writer.proofs.Sizes.{smallest_is, smallest_of}
+use borrow.Author.Rules.{rules}
+use Rattle.writer.proofs.smallest_size.Goals as goal
+
+pub returns-in-PropertyText : goal.returns-in-PropertyText
+unfolding layout
+returns-in-PropertyText c = smallest_of c.in-PropertyText.is c.requires c.widths.ensures.0 (λ vs. refl)
+
+pub returns-in-ModeText : goal.returns-in-ModeText
+unfolding layout
+returns-in-ModeText c = smallest_of c.in-ModeText.is c.requires c.widths.ensures.0 (λ vs. refl)
+
+pub returns-in-PortValue : goal.returns-in-PortValue
+unfolding layout
+returns-in-PortValue c = smallest_of c.in-PortValue.is c.requires c.widths.ensures.0 (λ vs. refl)
+
+pub returns-in-PortCombinations : goal.returns-in-PortCombinations
+unfolding layout
+returns-in-PortCombinations c = sym (ap (λ (m : Message). smallest_size (form_of m)) c.in-PortCombinations.is)
+
+pub returns-in-OutputFeedback : goal.returns-in-OutputFeedback
+unfolding layout
+returns-in-OutputFeedback c = smallest_of c.in-OutputFeedback.is c.requires c.widths.ensures.0 (λ vs. refl)
+
+pub returns-in-ModeDatasets : goal.returns-in-ModeDatasets
+unfolding layout
+returns-in-ModeDatasets c = smallest_of c.in-ModeDatasets.is c.requires c.widths.ensures.0 (λ vs. refl)
+
+pub returns-in-PortValueCombined : goal.returns-in-PortValueCombined
+unfolding layout
+returns-in-PortValueCombined c = smallest_of c.in-PortValueCombined.is c.requires c.widths.ensures.0 (λ vs. refl)
+
+pub returns-in_default : goal.returns-in_default
+returns-in_default c =
+    let start = c in let widths = c.widths in
+    sym (add-zero (type_place + widths.result))
+    ∙ smallest_is start.args.m start.args.slots start.requires widths.result widths.ensures.0 nothing
+    (nothing_follows start.args.m c.in-PropertyText.keys8) (λ vs. refl)
