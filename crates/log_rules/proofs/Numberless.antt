@@ -6,7 +6,6 @@ use mathlib.Core.List.{List, [], ◌∷◌, ◌++◌}
 use lib.ListN.{take, drop}
 use Rattle.protocol.specs.Number.{Bytes}
 use Rattle.protocol.proofs.Bytes.{Bytes-take, Bytes-drop}
-use Rattle.rules.specs.Answer as Answer
 use Rattle.rules.specs.Answer.{Answer}
 use Rattle.rules.specs.Cells.{table_at, sound, empty_cells}
 use Rattle.rules.specs.Dataset.{Dataset}

@@ -9,7 +9,6 @@ use lib.ListN.{get_or}
 use Rattle.protocol.specs.Rule.{one_of}
 use Rattle.protocol.specs.Properties.{carries}
 use Rattle.protocol.specs.Field.{Value}
-use Rattle.protocol.specs.Form
 use Rattle.protocol.specs.Form.{Form, layout}
 use Rattle.protocol.specs.Types.{Selection, always, select, MessageType, selectors, payload, types, hub_properties, hub_actions, hub_alerts, hub_attached_io, combined_format_setup, port_information, port_mode_information, virtual_port_setup, port_output_command}
 use Rattle.protocol.specs.Decode.{accepted, header, decode_form, decode_selection}

@@ -14,7 +14,6 @@ use Rattle.protocol.specs.Number.{Bytes}
 use Rattle.protocol.specs.Rule.{between}
 use Rattle.protocol.specs.Field.{Field, Value, natural, widths, Fields, values, and_then, read_fields}
 use Rattle.protocol.specs.Field as Field'
-use Rattle.protocol.specs.Form
 use Rattle.protocol.specs.Form.{Form, Rest, nothing, open_run, words, layout, whole, fits, words_from, up_from, wrong_byte, read_rest, open_bytes, code}
 use Rattle.protocol.specs.Decode.{accepted, wrong_size, header, fields_end, size_fits, values_or_refusal, decode_form}
 use Rattle.protocol.specs.Encode.{encoded, Written, wrote, before, write_fields, rest_fits, write_run, write_rest, then_rest, framed, closed, after_fields, encode_form, settle_rest, settled_values}

@@ -12,7 +12,6 @@ use lib.Seq.{get_or-take, get_or-drop}
 use Rattle.protocol.specs.Number.{Bytes}
 use Rattle.protocol.specs.Field.{Field, Value, natural, Fields, values, widths, and_then, read_fields}
 use Rattle.protocol.specs.Field as Field'
-use Rattle.protocol.specs.Form
 use Rattle.protocol.specs.Form.{Form, layout, read_rest, open_bytes, code, form_number, forms_by, argument, same_form}
 use Rattle.protocol.specs.Types.{Selection, always, select, MessageType, selectors, types, type_of, read_only}
 use Rattle.protocol.specs.Decode.{Answer, accepted, header, fields_end, size_fits, smallest_size, selectors_size, longest_message, values_or_refusal, decode_form, decode_selection, decode_type, decode_typed, decode_way, decode, open_of, open_part}

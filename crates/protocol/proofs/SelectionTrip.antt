@@ -14,7 +14,6 @@ use Rattle.protocol.specs.Number.{little_endian}
 use Rattle.protocol.specs.Rule.{Rule, one_of}
 use Rattle.protocol.specs.Properties.{carries}
 use Rattle.protocol.specs.Field.{Field, number, high_first, signed, float, fixed, Value, natural, integer, real, widths, values, read_field, read_fields}
-use Rattle.protocol.specs.Form
 use Rattle.protocol.specs.Form.{Form, layout, code}
 use Rattle.protocol.specs.Types.{Selection, always, select, MessageType, Row, selectors, payload, types, type_of, hub_properties, hub_actions, hub_alerts, hub_attached_io, combined_format_setup, port_information, port_mode_information, virtual_port_setup, port_output_command}
 use Rattle.protocol.specs.Answer.{natural_at}

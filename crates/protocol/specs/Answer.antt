@@ -2,7 +2,6 @@
 use Rattle.std.specs.Prelude.{ℕ, List, [], ◌∷◌, ℤ, pos, Float, get_or}
 use Rattle.std.specs.Float.{nan}
 use Rattle.protocol.specs.Field.{Value, natural, integer, real}
-use Rattle.protocol.specs.Form
 use Rattle.protocol.specs.Form.{Form}
 use Rattle.protocol.specs.Decode.{Answer, refused, accepted}
 use Rattle.protocol.specs.declared.Combinations.{Combinations}

@@ -1,5 +1,5 @@
 -- Combined mode (42, 46 and 48), read and written: examples of document 02's W2.
-use Rattle.std.specs.Prelude.{ℕ, List, [], ◌∷◌}
+use Rattle.std.specs.Prelude.{List, [], ◌∷◌}
 use Rattle.protocol.specs.Field.{natural}
 use Rattle.protocol.specs.Form
 use Rattle.protocol.specs.Decode.{refused, accepted}

@@ -1,5 +1,5 @@
 -- Motor commands (81) and their feedback (82), read and written: examples of document 02's W5.
-use Rattle.std.specs.Prelude.{ℕ, List, [], ◌∷◌, pos, negsuc, replicate}
+use Rattle.std.specs.Prelude.{List, [], ◌∷◌, pos, negsuc, replicate}
 use Rattle.protocol.specs.Field.{natural, integer}
 use Rattle.protocol.specs.Form
 use Rattle.protocol.specs.Decode.{refused, accepted}

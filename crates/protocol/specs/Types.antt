@@ -4,7 +4,6 @@ use Rattle.std.specs.Prelude.{ℕ, ◌+◌, cond, List, [], ◌∷◌, eqb}
 use Rattle.std.proofs.Math.Option.{Option, none, some}
 use Rattle.protocol.specs.Rule.{Rule, between, one_of, either}
 use Rattle.protocol.specs.Properties.{allowed, carries}
-use Rattle.protocol.specs.Form
 use Rattle.protocol.specs.Form.{Form}
 use Rattle.protocol.specs.declared.Way.{Way}
 use Rattle.protocol.specs.declared.Way.TheVariants.{Down, Up}

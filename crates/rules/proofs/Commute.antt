@@ -3,17 +3,13 @@ use Prim.Native.Nat.{ℕ, suc}
 use native.Mathlib.Omega.{arith}
 use mathlib.Core.Path.{◌≡◌, refl, sym, ◌∙◌, ap, subst}
 use mathlib.Core.Bool.{true, false}
-use mathlib.Core.List.{List, [], ◌∷◌}
+use mathlib.Core.List.{List}
 use mathlib.Core.Option.{Option, none, some}
 use mathlib.Core.Logic.{◌⊎◌, inl, inr, ⊎_elim}
 use borrow.Author.Tests.{eqb-false}
 use lib.Dec.{eqb}
-use Rattle.protocol.specs.Field.{Value}
-use Rattle.protocol.specs.Form.{Form}
 use Rattle.protocol.specs.Decode.{decode, open_of}
 use Rattle.protocol.specs.Decode as Decode
-use Rattle.protocol.specs.Answer.{message_of}
-use Rattle.protocol.specs.declared.Way.{Way}
 use Rattle.protocol.proofs.FieldTrip.{never}
 use Rattle.protocol.proofs.Tests.{which}
 use Rattle.rules.specs.Answer.{Answer, refused, accepted, unless_refused}
@@ -25,7 +21,7 @@ use Rattle.rules.specs.Learn.{learn}
 use Rattle.rules.specs.OpenBytes.{heard}
 use Rattle.rules.specs.Table.{Table, view_of_table, ports_of_table, on_settings, apply}
 use Rattle.rules.specs.Cells.{cells_of, table_at, sound}
-use Rattle.rules.specs.Offer.{Entry, judge_reading, judge_entry, offer_by_cells, applied_to, cells_after, dataset_by_cells, values_by_cells, view_of_cells}
+use Rattle.rules.specs.Offer.{Entry, judge_reading, judge_entry, offer_by_cells, cells_after, dataset_by_cells, values_by_cells, view_of_cells}
 use Rattle.rules.specs.Demand3.{EntryFits}
 use Rattle.rules.specs.Commute.{port_byte, readable, of_port_type, ports_differ, experiment_of, KeepsOwn, SameTable, Commute, PortsCommute}
 use Rattle.rules.proofs.Lookup.{map_facts}

@@ -12,7 +12,7 @@ use Rattle.protocol.specs.Types.{types, hub_attached_io, port_mode_information, 
 use Rattle.protocol.proofs.Tests.{and_left, and_right}
 use Rattle.rules.specs.Answer.{outcome}
 use Rattle.rules.specs.Cells.{empty_cells}
-use Rattle.rules.specs.Demand3.{Agree, AgreeThrough, EntryFits, EntriesFit}
+use Rattle.rules.specs.Demand3.{Agree, AgreeThrough, EntriesFit}
 use Rattle.rules.specs.Effect.{effect_of}
 use Rattle.rules.specs.Examples.{latest_first, attached, detached, joined, asked, answered}
 use Rattle.rules.specs.History.{since_attached, view_of_history, modes_of_history, full_history}

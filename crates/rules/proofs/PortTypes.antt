@@ -3,10 +3,9 @@ use Prim.Native.Nat.{ℕ}
 use native.Mathlib.Omega.{arith}
 use mathlib.Core.Path.{◌≡◌, refl, sym, ◌∙◌, ap}
 use mathlib.Core.Bool.{Bool, true, false, not, ◌||◌}
-use mathlib.Core.List.{List, [], ◌∷◌}
+use mathlib.Core.List.{List}
 use Rattle.protocol.specs.Rule.{one_of}
 use Rattle.protocol.specs.Field.{Value}
-use Rattle.protocol.specs.Form
 use Rattle.protocol.specs.Form.{Form, layout, code}
 use Rattle.protocol.specs.Decode.{accepted, decode}
 use Rattle.protocol.specs.Answer.{natural_at, message_of}

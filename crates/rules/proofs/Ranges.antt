@@ -13,7 +13,6 @@ use lib.ListN.{length, drop, length-drop}
 use Rattle.protocol.specs.Number.{Bytes, little_endian, big_endian, twos_complement, is_finite}
 use Rattle.protocol.specs.Rule.{Rule}
 use Rattle.protocol.specs.Field.{Field, number, high_first, signed, float, fixed, Value, natural, integer, real, widths, values, read_field, read_fields}
-use Rattle.protocol.specs.Form
 use Rattle.protocol.specs.Form.{Form, Rest, nothing, open_run, words, layout, most_entries, whole, fits, wrong_byte, read_run, read_rest, open_bytes}
 use Rattle.protocol.specs.Decode.{accepted, header, decode, fields_end, open_of}
 use Rattle.protocol.specs.Answer.{natural_at, message_of}

@@ -1,6 +1,6 @@
 -- Which messages W11's theorem is about (Commute.antt), and that its conditions matter: just outside them the order of two messages
 -- changes a state, and an answer.
-use Rattle.std.specs.Prelude.{ℕ, ◌≡◌, Bool, true, false, List, [], ◌∷◌, ◌++◌, map}
+use Rattle.std.specs.Prelude.{ℕ, ◌≡◌, true, false, List, [], ◌∷◌, ◌++◌, map}
 use Rattle.std.proofs.Math.Option.{Option, none, some}
 use Rattle.rules.specs.Answer.{refused, accepted, outcome}
 use Rattle.rules.specs.Cells.{empty_cells}

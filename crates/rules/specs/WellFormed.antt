@@ -1,7 +1,7 @@
 -- A sound table, in document 01's words: no port twice; a virtual record names two different physical records, both joined
 -- to it, and nothing else is joined; fields within their lists; state fits its rule. The experiment number is 0 before any asking. Then
 -- document 02's lists of modes and datasets.
-use Rattle.std.specs.Prelude.{ℕ, zero, suc, Bool, true, false, cond, not, ◌&&◌, ◌||◌, List, [], ◌∷◌, eqb, leb, ltb, length}
+use Rattle.std.specs.Prelude.{ℕ, zero, suc, Bool, true, false, not, ◌&&◌, ◌||◌, List, [], ◌∷◌, eqb, leb, ltb, length}
 use Rattle.std.proofs.Math.Option.{Option, none, some}
 use Rattle.protocol.specs.Form.{last_mode, last_notify, most_datasets, last_kind, most_entries, mode_dataset_list, wrong_byte}
 use Rattle.protocol.specs.Rule.{between}

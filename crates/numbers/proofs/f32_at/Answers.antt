@@ -6,7 +6,6 @@ use lib.Dec.{T}
 use lib.Ieee.{Float, nan, inf, fin, binary32, of_bits, of_fields, odd, div, is_nan, nan_bits}
 use lib.Ieee.Bits.{nan_bits_is, nan_bits_above}
 use native.Mathlib.Omega.{arith}
-use borrow.Author.Rules.{rules}
 use Rattle.numbers.proofs.f32_at.Goals as goal
 
 divided : div binary32 (of_bits binary32 0) (of_bits binary32 0) ≡ nan

@@ -3,7 +3,6 @@ use Rattle.protocol.specs.Number.{is_finite}
 use lib.Ieee.{binary32, of_bits}
 use mathlib.Core.Path.{sym, ◌∙◌, ap}
 use Prim.Native.Nat.{ℕ}
-use borrow.Author.Rules.{rules}
 use Rattle.numbers.proofs.finite_at.Goals as goal
 
 pub returns : goal.returns

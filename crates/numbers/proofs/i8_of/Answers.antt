@@ -4,7 +4,6 @@ use Rattle.protocol.proofs.Signed.{upper_half}
 use mir.Facts.{to_z_pos, to_z-neg}
 use mir.Syntax.{w8}
 use native.Mathlib.Omega.{arith}
-use borrow.Author.Rules.{rules}
 use Rattle.numbers.proofs.i8_of.Goals as goal
 
 pub overflow_add-result : goal.overflow_add-result

@@ -1,5 +1,4 @@
 use Rattle.numbers.proofs.Places.{little_two}
-use borrow.Author.Rules.{rules}
 use Rattle.numbers.proofs.u16_at.Goals as goal
 
 pub returns : goal.returns

@@ -1,6 +1,5 @@
 use native.Mathlib.Omega.{arith}
 use Rattle.numbers.proofs.Places.{big_three}
-use borrow.Author.Rules.{rules}
 use Rattle.numbers.proofs.u24_at.Goals as goal
 
 pub returns : goal.returns

@@ -1,5 +1,4 @@
 use Rattle.numbers.proofs.Places.{little_four}
-use borrow.Author.Rules.{rules}
 use Rattle.numbers.proofs.u32_at.Goals as goal
 
 pub returns : goal.returns

@@ -1,5 +1,4 @@
 use Rattle.numbers.proofs.Places.{big_six}
-use borrow.Author.Rules.{rules}
 use Rattle.numbers.proofs.u48_at.Goals as goal
 
 pub returns : goal.returns

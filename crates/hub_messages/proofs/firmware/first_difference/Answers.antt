@@ -1,10 +1,7 @@
-use Prim.Native.Nat.{◌+◌, ◌-◌, ◌≤◌}
 use borrow.Author.Rules.{rules}
 use borrow.Author.Tests.{lt-ltb, le-ltb}
-use mathlib.Core.Path.{◌≡◌, ◌∙◌, sym}
+use mathlib.Core.Path.{◌∙◌, sym}
 use native.Mathlib.Nat.{add-zero}
-use lib.ListN.{length, drop}
-use Rattle.protocol.specs.Field.{same_bytes}
 use Rattle.protocol.proofs.FixedString.{differs, agrees, all_agree}
 use Rattle.hub_messages.proofs.firmware.first_difference.Goals as goal
 

@@ -2,7 +2,6 @@ use mathlib.Core.Path.{◌≡◌, sym}
 use mathlib.Core.List.{[], ◌∷◌}
 use lib.ListN.{get_or}
 use Rattle.protocol.specs.Field.{natural}
-use borrow.Author.Rules.{rules}
 use borrow.Author.Tests.{eq-eqb, ne_eqb}
 use Rattle.protocol.specs.Number.{little_endian}
 use Rattle.protocol.specs.Form.{layout, lock_status}

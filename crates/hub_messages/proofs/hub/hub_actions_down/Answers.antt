@@ -1,8 +1,7 @@
 use mathlib.Core.Path.{sym, ◌∙◌}
-use borrow.Author.Tests.{lt-ltb, le-ltb, not-true, not-false}
+use borrow.Author.Tests.{lt-ltb, le-ltb}
 use Rattle.protocol.specs.Types.{hub_actions}
 use Rattle.protocol.specs.Decode.{decode_type}
-use borrow.Author.Rules.{rules}
 use Rattle.hub_messages.proofs.hub.hub_actions_down.Goals as goal
 
 pub returns-then-s-lt4 : goal.returns-then-s-lt4

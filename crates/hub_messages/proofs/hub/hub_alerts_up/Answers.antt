@@ -1,8 +1,7 @@
 use mathlib.Core.Path.{sym, ◌∙◌}
-use borrow.Author.Tests.{lt-ltb, le-ltb, eq-eqb, ne_eqb, not-true, not-false}
+use borrow.Author.Tests.{lt-ltb, le-ltb, eq-eqb, ne_eqb}
 use Rattle.protocol.specs.Types.{hub_alerts}
 use Rattle.protocol.specs.Decode.{decode_type}
-use borrow.Author.Rules.{rules}
 use Rattle.hub_messages.proofs.hub.hub_alerts_up.Goals as goal
 
 pub returns-then-s-lt5 : goal.returns-then-s-lt5

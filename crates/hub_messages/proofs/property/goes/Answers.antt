@@ -1,5 +1,4 @@
 use borrow.Author.Tests.{le-leb, lt-leb}
-use borrow.Author.Rules.{rules}
 use Rattle.hub_messages.proofs.property.goes.Goals as goal
 
 pub returns-then-operation-lt1 : goal.returns-then-operation-lt1

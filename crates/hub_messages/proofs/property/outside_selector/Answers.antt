@@ -2,11 +2,10 @@ use Prim.Native.Nat.{ℕ, ◌≤◌}
 use mathlib.Core.Path.{◌≡◌, sym, ◌∙◌}
 use mathlib.Core.Bool.{true}
 use lib.Dec.{leb}
-use borrow.Author.Tests.{leb-true, not-true, not-false}
+use borrow.Author.Tests.{leb-true}
 use Rattle.protocol.proofs.Tests.{and_left, and_right}
 use Rattle.protocol.specs.Rule.{between}
 use Rattle.protocol.specs.Properties.{outside_selector}
-use borrow.Author.Rules.{rules}
 use Rattle.hub_messages.proofs.property.outside_selector.Goals as goal
 
 in_between : (least most n : ℕ) → between least most n ≡ true → (least ≤ n) × (n ≤ most)

@@ -1,7 +1,5 @@
-use Prim.Native.Nat.{ℕ, suc, ◌-◌, ◌≤◌}
 use borrow.Author.Rules.{rules}
-use lib.ListN.{length}
-use Rattle.hub_messages.proofs.Entries.{Left, at_first, is_there, goes_on, not_there}
+use Rattle.hub_messages.proofs.Entries.{at_first, is_there, goes_on, not_there}
 use Rattle.hub_messages.proofs.rule.is_among.Goals as goal
 
 pub loop-i-init : goal.loop-i-init

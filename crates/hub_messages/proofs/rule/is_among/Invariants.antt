@@ -1,7 +1,6 @@
-use Prim.Native.Nat.{ℕ, suc, ◌-◌, ◌≤◌}
-use borrow.Author.Rules.{rules}
+use Prim.Native.Nat.{◌-◌, ◌≤◌}
 use lib.ListN.{length}
-use Rattle.hub_messages.proofs.Entries.{Left, at_first, is_there, goes_on, not_there}
+use Rattle.hub_messages.proofs.Entries.{Left}
 use Rattle.hub_messages.proofs.rule.is_among.Given as goal
 
 -- A byte among others: those from an index on are left to look at.

@@ -1,9 +1,7 @@
-use Prim.Native.Nat.{ℕ, suc, ◌-◌, ◌≤◌}
 use borrow.Author.Rules.{rules}
 use mathlib.Core.Path.{sym, ◌∙◌}
-use lib.ListN.{length}
 use lib.Seq.{length-take-le}
-use Rattle.hub_messages.proofs.Entries.{Later, from_first, is_repeat, no_repeat, none_repeated}
+use Rattle.hub_messages.proofs.Entries.{from_first, is_repeat, no_repeat, none_repeated}
 use Rattle.hub_messages.proofs.rule.repeated_entry.Goals as goal
 
 pub loop-i-init : goal.loop-i-init

@@ -1,9 +1,6 @@
-use Prim.Native.Nat.{ℕ, suc, ◌-◌, ◌≤◌}
-use borrow.Author.Rules.{rules}
-use mathlib.Core.Path.{sym, ◌∙◌}
+use Prim.Native.Nat.{◌-◌, ◌≤◌}
 use lib.ListN.{length}
-use lib.Seq.{length-take-le}
-use Rattle.hub_messages.proofs.Entries.{Later, from_first, is_repeat, no_repeat, none_repeated}
+use Rattle.hub_messages.proofs.Entries.{Later}
 use Rattle.hub_messages.proofs.rule.repeated_entry.Given as goal
 
 -- The entries of a list: those from an index on are left to look at.

@@ -1,7 +1,5 @@
-use Prim.Native.Nat.{ℕ, suc, ◌-◌, ◌≤◌}
 use borrow.Author.Rules.{rules}
-use lib.ListN.{length}
-use Rattle.hub_messages.proofs.Feedback.{Left, at_first, is_wrong, goes_on, at_end}
+use Rattle.hub_messages.proofs.Feedback.{at_first, is_wrong, goes_on, at_end}
 use Rattle.hub_messages.proofs.rule.wrong_feedback.Goals as goal
 
 pub loop-i-init : goal.loop-i-init

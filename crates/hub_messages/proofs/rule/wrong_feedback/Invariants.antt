@@ -1,7 +1,6 @@
-use Prim.Native.Nat.{ℕ, suc, ◌-◌, ◌≤◌}
-use borrow.Author.Rules.{rules}
+use Prim.Native.Nat.{suc, ◌-◌, ◌≤◌}
 use lib.ListN.{length}
-use Rattle.hub_messages.proofs.Feedback.{Left, at_first, is_wrong, goes_on, at_end}
+use Rattle.hub_messages.proofs.Feedback.{Left}
 use Rattle.hub_messages.proofs.rule.wrong_feedback.Given as goal
 
 abbrev pub invariant-loop-i : goal.invariant-loop-i
