@@ -21,6 +21,7 @@ fn action_effect(action: u8) -> Effect
 }
 
 // What a message with its experiment number is to the table.
+#[tactic(auto, unfolding(rules::specs::Effect::effect_of))]
 pub fn effect_of(m: Message, experiment: u16) -> Effect
     ensures { result ≡ effect_of experiment m }
 {

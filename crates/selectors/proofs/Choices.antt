@@ -13,7 +13,6 @@ use Rattle.protocol.proofs.Tests.{which}
 use Rattle.protocol.specs.Rule.{between, one_of, either}
 use Rattle.protocol.specs.Properties.{carries, allowed, outside_selector}
 use Rattle.protocol.specs.Field.{Value}
-use Rattle.protocol.specs.Form
 use Rattle.protocol.specs.Form.{Form, form_number, argument, same_form, code}
 use Rattle.protocol.specs.Types.{payload, down_action, up_action, hub_properties, hub_actions, hub_alerts, hub_attached_io, port_information, port_mode_information, combined_format_setup, virtual_port_setup, port_output_command, types, read_only}
 use Rattle.protocol.specs.Answer.{form_of, values_of, natural_at, message_of}

@@ -2,7 +2,6 @@
 use Rattle.std.specs.Prelude.{ℕ, Bool, true, false, cond, [], ◌∷◌, eqb, get_or}
 use Rattle.protocol.specs.Rule.{Rule, between, one_of, either}
 use Rattle.protocol.specs.Properties.{carries, outside_selector}
-use Rattle.protocol.specs.Form
 use Rattle.protocol.specs.Form.{Form, form_number, forms_by}
 use Rattle.protocol.specs.Types.{payload, down_action, up_action}
 use Rattle.protocol.specs.Encode.{Encoded, refused}

@@ -1,6 +1,6 @@
 -- The cells of a place are those of what it stands for: zeros, or a record's, by its wiring, what was asked and answered, and
 -- the lists; any experiment number is exact.
-use Prim.Native.Nat.{ℕ, zero, suc, ◌+◌, ◌-◌, ◌≤◌}
+use Prim.Native.Nat.{ℕ, zero, suc, ◌+◌, ◌≤◌}
 use native.Mathlib.Nat.{add-zero}
 use native.Mathlib.Omega.{arith}
 use mathlib.Core.Path.{◌≡◌, refl, sym, ◌∙◌, ap}

@@ -6,7 +6,9 @@ pub mod LogBlocks
 pub mod LogLines
 pub mod Lookups
 pub mod Offers
+pub mod ReadByCells
 pub mod Steps
+pub mod Sums
 pub mod Tells
 pub mod Unsound
 pub mod DatasetAnswers

@@ -13,7 +13,6 @@ use lib.ListN.{length, take, drop, replicate, take-append-drop}
 use Rattle.protocol.proofs.Tests.{which, and_left, and_right}
 use Rattle.protocol.specs.Rule.{any, up_to, between, any_signed}
 use Rattle.protocol.specs.Field.{Field, number, high_first, signed, float, fixed, Value, natural, integer, real, width, widths}
-use Rattle.protocol.specs.Form
 use Rattle.protocol.specs.Form.{Form, information_type, alert_status, start_byte, end_state, signed_speed, degrees, boot_string, lock_string, Rest, nothing, open_run, words, layout, code, wrong_byte}
 use Rattle.protocol.specs.Decode.{header, smallest_size}
 use Rattle.protocol.specs.Answer.{form_of, values_of}

@@ -3,33 +3,37 @@ use Prim.Native.Nat.{ℕ, ◌+◌, ◌≤◌}
 use native.Mathlib.Omega.{arith}
 use mathlib.Core.Path.{◌≡◌, refl, sym, ◌∙◌, ap}
 use mathlib.Core.Bool.{true, false, ◌&&◌}
-use mathlib.Core.List.{List, [], ◌∷◌}
+use mathlib.Core.List.{List}
 use mathlib.Core.Logic.{⊎_elim}
 use lib.Dec.{leb, ltb}
 use lib.ListN.{length}
 use borrow.Author.Tests.{leb-true, ltb-true, ltb-false}
-use types.Run.{OneOf, miss}
-use denote.Enum.Declared.{tag_of}
-use Rattle.protocol.specs.contracts.Message.{the_type}
 use Rattle.protocol.proofs.Tests.{which, and_right}
 use Rattle.protocol.specs.Form.{Rest, nothing, open_run, layout, Run, whole, wrong_byte}
 use Rattle.protocol.specs.Answer.{form_of, values_of}
 use Rattle.protocol.specs.Decode.{fields_end}
 use Rattle.protocol.specs.Encode.{rest_fits, after_fields}
+use Rattle.protocol.specs.declared.Combinations.{Combinations}
 use Rattle.protocol.specs.declared.Message.{Message}
 use Rattle.protocol.specs.declared.Message.TheVariants as Message'
 use Rattle.hub_messages.specs.Runs.{wrong_index}
 use Rattle.hub_messages.proofs.Runs.{index_few, all_right, one_wrong}
 use Rattle.writer.specs.Open.{open_fits, place_from, place_of, rest_outside, open_outside}
 
--- the messages that end with their fields, by their places in the enum
-abbrev others : List ℕ
-others = 0 ∷ 2 ∷ 3 ∷ 4 ∷ 5 ∷ 6 ∷ 7 ∷ 8 ∷ 9 ∷ 10 ∷ 11 ∷ 12 ∷ 13 ∷ 14 ∷ 15 ∷ 16 ∷ 17 ∷ 18 ∷ 19 ∷ 20 ∷ 21 ∷ 24 ∷ 25 ∷ 26 ∷ 27 ∷ 28 ∷ 30 ∷ 31 ∷ 32 ∷ 33 ∷ 34 ∷ 35 ∷ 36 ∷ 38 ∷ 41 ∷ []
+-- a message that ends with its fields: it has none of the other cases
+pub record Ended (m : Message) : Type 0 where
+  pub no_text : (p o : ℕ) → m ≡ Message'.PropertyText p o → ⊥
+  pub no_list : (p : ℕ) (k : Combinations) → m ≡ Message'.PortCombinations p k → ⊥
+  pub no_mode_text : (p k i : ℕ) → m ≡ Message'.ModeText p k i → ⊥
+  pub no_value : (p : ℕ) → m ≡ Message'.PortValue p → ⊥
+  pub no_feedback : m ≡ Message'.OutputFeedback → ⊥
+  pub no_datasets : (p k : ℕ) → m ≡ Message'.ModeDatasets p k → ⊥
+  pub no_combined : (p w : ℕ) → m ≡ Message'.PortValueCombined p w → ⊥
 
-pub nothing_follows : (m : Message) → OneOf others (tag_of the_type m) → (layout (form_of m)).rest ≡ nothing
+pub nothing_follows : (m : Message) → Ended m → (layout (form_of m)).rest ≡ nothing
 unfolding layout
 nothing_follows (Message'.PropertyCommand p o) t = refl
-nothing_follows (Message'.PropertyText p o) t = absurd (miss others 1 tt t)
+nothing_follows (Message'.PropertyText p o) t = absurd (t.no_text p o refl)
 nothing_follows (Message'.PropertyByte p o v) t = refl
 nothing_follows (Message'.PropertyRssi o v) t = refl
 nothing_follows (Message'.PropertyVersion p o v) t = refl
@@ -50,14 +54,14 @@ nothing_follows (Message'.PortInformationRequest p i) t = refl
 nothing_follows (Message'.ModeInformationRequest p m i) t = refl
 nothing_follows (Message'.InputFormatSetup p m d n) t = refl
 nothing_follows (Message'.PortModes p k n i o) t = refl
-nothing_follows (Message'.PortCombinations p k) t = absurd (miss others 22 tt t)
-nothing_follows (Message'.ModeText p m i) t = absurd (miss others 23 tt t)
+nothing_follows (Message'.PortCombinations p k) t = absurd (t.no_list p k refl)
+nothing_follows (Message'.ModeText p m i) t = absurd (t.no_mode_text p m i refl)
 nothing_follows (Message'.ModeRange p m i l h) t = refl
 nothing_follows (Message'.ModeMapping p m v) t = refl
 nothing_follows (Message'.ModeBias p m v) t = refl
 nothing_follows (Message'.ModeCapabilities p m v) t = refl
 nothing_follows (Message'.ValueFormat p m n k f d) t = refl
-nothing_follows (Message'.PortValue p) t = absurd (miss others 29 tt t)
+nothing_follows (Message'.PortValue p) t = absurd (t.no_value p refl)
 nothing_follows (Message'.InputFormat p m d n) t = refl
 nothing_follows (Message'.VirtualDisconnect p) t = refl
 nothing_follows (Message'.VirtualConnect a b) t = refl
@@ -65,62 +69,58 @@ nothing_follows (Message'.StartSpeedForDegrees p s d l r w e u) t = refl
 nothing_follows (Message'.GotoAbsolutePosition p s a v w e u) t = refl
 nothing_follows (Message'.GotoAbsolutePositions p s a b v w e u) t = refl
 nothing_follows (Message'.PresetEncoders p s l r) t = refl
-nothing_follows Message'.OutputFeedback t = absurd (miss others 37 tt t)
+nothing_follows Message'.OutputFeedback t = absurd (t.no_feedback refl)
 nothing_follows (Message'.CombinedSetup p s) t = refl
-nothing_follows (Message'.ModeDatasets p k) t = absurd (miss others 39 tt t)
-nothing_follows (Message'.PortValueCombined p w) t = absurd (miss others 40 tt t)
+nothing_follows (Message'.ModeDatasets p k) t = absurd (t.no_datasets p k refl)
+nothing_follows (Message'.PortValueCombined p w) t = absurd (t.no_combined p w refl)
 nothing_follows (Message'.InputFormatCombined p k w) t = refl
 
 -- ---- the open bytes that are tested: those of an 82 and of a 42's list
 
--- all messages but these
-abbrev untested : List ℕ
-untested = 0 ∷ 1 ∷ 2 ∷ 3 ∷ 4 ∷ 5 ∷ 6 ∷ 7 ∷ 8 ∷ 9 ∷ 10 ∷ 11 ∷ 12 ∷ 13 ∷ 14 ∷ 15 ∷ 16 ∷ 17 ∷ 18 ∷ 19 ∷ 20 ∷ 21 ∷ 22 ∷ 23 ∷ 24 ∷ 25 ∷ 26 ∷ 27 ∷ 28 ∷ 29 ∷ 30 ∷ 31 ∷ 32 ∷ 33 ∷ 34 ∷ 35 ∷ 36 ∷ 38 ∷ 40 ∷ 41 ∷ []
-
-pub never_outside : (m : Message) (opens : List ℕ) → OneOf untested (tag_of the_type m) → open_outside m opens ≡ 0
+pub never_outside : (m : Message) (opens : List ℕ) → (m ≡ Message'.OutputFeedback → ⊥) → ((p k : ℕ) → m ≡ Message'.ModeDatasets p k → ⊥) → open_outside m opens ≡ 0
 unfolding open_outside layout
-never_outside (Message'.PropertyCommand p o) opens t = refl
-never_outside (Message'.PropertyText p o) opens t = refl
-never_outside (Message'.PropertyByte p o v) opens t = refl
-never_outside (Message'.PropertyRssi o v) opens t = refl
-never_outside (Message'.PropertyVersion p o v) opens t = refl
-never_outside (Message'.PropertyProtocol o v) opens t = refl
-never_outside (Message'.PropertyAddress p o v) opens t = refl
-never_outside (Message'.HubAction a) opens t = refl
-never_outside (Message'.AlertCommand a o) opens t = refl
-never_outside (Message'.AlertUpdate a v) opens t = refl
-never_outside (Message'.Detached p) opens t = refl
-never_outside (Message'.Attached p d h f) opens t = refl
-never_outside (Message'.AttachedVirtual p d a b) opens t = refl
-never_outside (Message'.GenericError k g) opens t = refl
-never_outside Message'.GoIntoBootMode opens t = refl
-never_outside Message'.LockMemory opens t = refl
-never_outside Message'.LockStatusRequest opens t = refl
-never_outside (Message'.LockStatus v) opens t = refl
-never_outside (Message'.PortInformationRequest p i) opens t = refl
-never_outside (Message'.ModeInformationRequest p m i) opens t = refl
-never_outside (Message'.InputFormatSetup p m d n) opens t = refl
-never_outside (Message'.PortModes p k n i o) opens t = refl
-never_outside (Message'.PortCombinations p k) opens t = refl
-never_outside (Message'.ModeText p m i) opens t = refl
-never_outside (Message'.ModeRange p m i l h) opens t = refl
-never_outside (Message'.ModeMapping p m v) opens t = refl
-never_outside (Message'.ModeBias p m v) opens t = refl
-never_outside (Message'.ModeCapabilities p m v) opens t = refl
-never_outside (Message'.ValueFormat p m n k f d) opens t = refl
-never_outside (Message'.PortValue p) opens t = refl
-never_outside (Message'.InputFormat p m d n) opens t = refl
-never_outside (Message'.VirtualDisconnect p) opens t = refl
-never_outside (Message'.VirtualConnect a b) opens t = refl
-never_outside (Message'.StartSpeedForDegrees p s d l r w e u) opens t = refl
-never_outside (Message'.GotoAbsolutePosition p s a v w e u) opens t = refl
-never_outside (Message'.GotoAbsolutePositions p s a b v w e u) opens t = refl
-never_outside (Message'.PresetEncoders p s l r) opens t = refl
-never_outside Message'.OutputFeedback opens t = absurd (miss untested 37 tt t)
-never_outside (Message'.CombinedSetup p s) opens t = refl
-never_outside (Message'.ModeDatasets p k) opens t = absurd (miss untested 39 tt t)
-never_outside (Message'.PortValueCombined p w) opens t = refl
-never_outside (Message'.InputFormatCombined p k w) opens t = refl
+never_outside (Message'.PropertyCommand p o) opens no_feedback no_datasets = refl
+never_outside (Message'.PropertyText p o) opens no_feedback no_datasets = refl
+never_outside (Message'.PropertyByte p o v) opens no_feedback no_datasets = refl
+never_outside (Message'.PropertyRssi o v) opens no_feedback no_datasets = refl
+never_outside (Message'.PropertyVersion p o v) opens no_feedback no_datasets = refl
+never_outside (Message'.PropertyProtocol o v) opens no_feedback no_datasets = refl
+never_outside (Message'.PropertyAddress p o v) opens no_feedback no_datasets = refl
+never_outside (Message'.HubAction a) opens no_feedback no_datasets = refl
+never_outside (Message'.AlertCommand a o) opens no_feedback no_datasets = refl
+never_outside (Message'.AlertUpdate a v) opens no_feedback no_datasets = refl
+never_outside (Message'.Detached p) opens no_feedback no_datasets = refl
+never_outside (Message'.Attached p d h f) opens no_feedback no_datasets = refl
+never_outside (Message'.AttachedVirtual p d a b) opens no_feedback no_datasets = refl
+never_outside (Message'.GenericError k g) opens no_feedback no_datasets = refl
+never_outside Message'.GoIntoBootMode opens no_feedback no_datasets = refl
+never_outside Message'.LockMemory opens no_feedback no_datasets = refl
+never_outside Message'.LockStatusRequest opens no_feedback no_datasets = refl
+never_outside (Message'.LockStatus v) opens no_feedback no_datasets = refl
+never_outside (Message'.PortInformationRequest p i) opens no_feedback no_datasets = refl
+never_outside (Message'.ModeInformationRequest p m i) opens no_feedback no_datasets = refl
+never_outside (Message'.InputFormatSetup p m d n) opens no_feedback no_datasets = refl
+never_outside (Message'.PortModes p k n i o) opens no_feedback no_datasets = refl
+never_outside (Message'.PortCombinations p k) opens no_feedback no_datasets = refl
+never_outside (Message'.ModeText p m i) opens no_feedback no_datasets = refl
+never_outside (Message'.ModeRange p m i l h) opens no_feedback no_datasets = refl
+never_outside (Message'.ModeMapping p m v) opens no_feedback no_datasets = refl
+never_outside (Message'.ModeBias p m v) opens no_feedback no_datasets = refl
+never_outside (Message'.ModeCapabilities p m v) opens no_feedback no_datasets = refl
+never_outside (Message'.ValueFormat p m n k f d) opens no_feedback no_datasets = refl
+never_outside (Message'.PortValue p) opens no_feedback no_datasets = refl
+never_outside (Message'.InputFormat p m d n) opens no_feedback no_datasets = refl
+never_outside (Message'.VirtualDisconnect p) opens no_feedback no_datasets = refl
+never_outside (Message'.VirtualConnect a b) opens no_feedback no_datasets = refl
+never_outside (Message'.StartSpeedForDegrees p s d l r w e u) opens no_feedback no_datasets = refl
+never_outside (Message'.GotoAbsolutePosition p s a v w e u) opens no_feedback no_datasets = refl
+never_outside (Message'.GotoAbsolutePositions p s a b v w e u) opens no_feedback no_datasets = refl
+never_outside (Message'.PresetEncoders p s l r) opens no_feedback no_datasets = refl
+never_outside Message'.OutputFeedback opens no_feedback no_datasets = absurd (no_feedback refl)
+never_outside (Message'.CombinedSetup p s) opens no_feedback no_datasets = refl
+never_outside (Message'.ModeDatasets p k) opens no_feedback no_datasets = absurd (no_datasets p k refl)
+never_outside (Message'.PortValueCombined p w) opens no_feedback no_datasets = refl
+never_outside (Message'.InputFormatCombined p k w) opens no_feedback no_datasets = refl
 
 -- of any run: it is as long as its form lets it be, and its first wrong byte is found by an index, from the place on where it starts
 module _ (m n : Message) (is : m ≡ n) (opens : List ℕ) (least most : ℕ) (run : Run) (follows : (layout (form_of n)).rest ≡ open_run least most run) where

@@ -3,7 +3,6 @@ use mathlib.Core.Bool.{true, false}
 use lib.Dec.{ltb}
 use lib.ListN.{length}
 use borrow.Author.Tests.{lt-ltb, le-ltb}
-use borrow.Author.Rules.{rules}
 use Rattle.answers.proofs.fill.Goals as goal
 
 pub returns-then-cells-row : goal.returns-then-cells-row

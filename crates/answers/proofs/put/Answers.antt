@@ -1,17 +1,13 @@
-use Prim.Native.Nat.{ℕ, suc, ◌-◌, ◌≤◌, ◌<◌}
+use Prim.Native.Nat.{ℕ, suc, ◌≤◌, ◌<◌}
 use native.Mathlib.Nat.{zero-add}
 use native.Mathlib.Numerals.{add-one}
 use native.Mathlib.Omega.{arith}
 use mathlib.Core.List.{List, ◌++◌}
 use lib.ListN.{length, get_or, set, drop}
 use mathlib.Core.Path.{◌≡◌, refl, sym, ◌∙◌, ap}
-use borrow.Author.Rules.{rules}
 use lib.Seq.{paste, paste-suc, length-paste, take-length}
+use Rattle.answers.proofs.put.Invariants.{Put}
 use Rattle.answers.proofs.put.Goals as goal
-
--- so many of the row are put
-abbrev Put : List ℕ → List ℕ → ℕ → List ℕ → Type 0
-Put d s i e = (i ≤ length s) × (e ≡ paste d 0 s i)
 
 kept : (d s : List ℕ) (i : ℕ) (e : List ℕ) → Put d s i e → length s ≤ length d → length e ≡ length d
 kept d s i e inv pre = ap length inv.1 ∙ length-paste d 0 s i (omega arith) inv.0

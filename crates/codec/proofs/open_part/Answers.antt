@@ -1,7 +1,6 @@
 use mathlib.Core.Path.{sym, ◌∙◌, ap, refl}
 use Rattle.protocol.specs.Decode.{open_of, open_part}
 use Rattle.protocol.specs.Answer.{answer_of}
-use borrow.Author.Rules.{rules}
 use Rattle.codec.proofs.open_part.Goals as goal
 
 pub returns-in-Accepted : goal.returns-in-Accepted

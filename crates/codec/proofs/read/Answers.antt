@@ -3,7 +3,6 @@ use Rattle.protocol.specs.declared.Way.{Way}
 use Rattle.protocol.specs.Decode.{decode, decode_way}
 use Rattle.protocol.proofs.Selection.{headed}
 use borrow.Author.Tests.{lt-ltb, le-ltb, eq-eqb, ne_eqb}
-use borrow.Author.Rules.{rules}
 use Rattle.codec.proofs.read.Goals as goal
 
 pub returns-then-message-eq0 : goal.returns-then-message-eq0

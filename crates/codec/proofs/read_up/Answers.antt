@@ -1,4 +1,3 @@
-use borrow.Author.Tests.{ne_eqb}
 use mathlib.Core.Path.{sym, ◌∙◌}
 use Rattle.protocol.specs.declared.Way.TheVariants.{Up}
 use Rattle.protocol.specs.Types.{types}
@@ -68,6 +67,4 @@ returns-in-130 c =
 
 pub returns-in_default : goal.returns-in_default
 unfolding decode_way types
-returns-in_default c =
-    let r = c.in-1.rest in
-    simp (c.refuse.ensures, ne_eqb _ _ r.0.0.0.0.0.0.0.0.0.0.0.0.1, ne_eqb _ _ r.0.0.0.0.0.0.0.0.0.0.0.1, ne_eqb _ _ r.0.0.0.0.0.0.0.0.0.0.1, ne_eqb _ _ r.0.0.0.0.0.0.0.0.0.1, ne_eqb _ _ r.0.0.0.0.0.0.0.0.1, ne_eqb _ _ r.0.0.0.0.0.0.0.1, ne_eqb _ _ r.0.0.0.0.0.0.1, ne_eqb _ _ r.0.0.0.0.0.1, ne_eqb _ _ r.0.0.0.0.1, ne_eqb _ _ r.0.0.0.1, ne_eqb _ _ r.0.0.1, ne_eqb _ _ r.0.1, ne_eqb _ _ r.1)
+returns-in_default c = simp (c.refuse.ensures) (search rules)

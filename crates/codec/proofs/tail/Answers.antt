@@ -4,7 +4,6 @@ use lib.Seq.{take_all}
 use lib.ListN.{length-drop, drop_of_length-le}
 use native.Mathlib.Omega.{arith}
 use mathlib.Core.Path.{sym}
-use borrow.Author.Rules.{rules}
 use Rattle.codec.proofs.tail.Goals as goal
 
 pub returns-then-at-s : goal.returns-then-at-s

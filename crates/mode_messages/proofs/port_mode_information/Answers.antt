@@ -3,7 +3,7 @@ use Rattle.protocol.proofs.Selection.{too_short}
 use Rattle.protocol.specs.Decode.{decode_type}
 use Rattle.protocol.specs.Types.{port_mode_information}
 use mathlib.Core.Path.{sym, ◌∙◌}
-use borrow.Author.Tests.{le-ltb, ne_eqb}
+use borrow.Author.Tests.{le-ltb}
 use borrow.Author.Rules.{rules}
 use Rattle.mode_messages.proofs.port_mode_information.Goals as goal
 
@@ -66,6 +66,4 @@ returns-in-128 c =
 
 pub returns-in_default : goal.returns-in_default
 unfolding port_mode_information decode_type
-returns-in_default c =
-    let c1 = c in let r = c.in-0.rest in
-    simp (c.outside.ensures, le-ltb _ _ c1.if-s-lt6.false, ne_eqb _ _ r.0.0.0.0.0.0.0.0.1, ne_eqb _ _ r.0.0.0.0.0.0.0.1, ne_eqb _ _ r.0.0.0.0.0.0.1, ne_eqb _ _ r.0.0.0.0.0.1, ne_eqb _ _ r.0.0.0.0.1, ne_eqb _ _ r.0.0.0.1, ne_eqb _ _ r.0.0.1, ne_eqb _ _ r.0.1, ne_eqb _ _ r.1)
+returns-in_default c = simp (c.outside.ensures, le-ltb _ _ c.if-s-lt6.false) (search rules)

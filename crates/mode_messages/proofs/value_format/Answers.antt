@@ -1,10 +1,9 @@
 use mathlib.Core.Path.{◌≡◌, sym, ◌∙◌}
-use borrow.Author.Tests.{eq-eqb, ne_eqb, le-leb, lt-leb, not-true, not-false}
+use borrow.Author.Tests.{eq-eqb, ne_eqb, le-leb, lt-leb}
 use Rattle.protocol.specs.Number.{little_endian}
 use Rattle.protocol.specs.Form.{layout}
 use Rattle.protocol.specs.Decode.{decode_form, refused}
 use Rattle.protocol.specs.Answer.{answer_of}
-use borrow.Author.Rules.{rules}
 use Rattle.mode_messages.proofs.value_format.Goals as goal
 
 pub returns-then-s-ne10 : goal.returns-then-s-ne10

@@ -1,10 +1,9 @@
 use Prim.Native.Nat.{ℕ, ◌+◌}
 use native.Mathlib.Omega.{arith}
 use mathlib.Core.Path.{◌≡◌, sym, ◌∙◌}
-use borrow.Author.Tests.{le-leb, lt-leb, not-true, not-false}
+use borrow.Author.Tests.{le-leb, lt-leb}
 use Rattle.protocol.specs.Number.{little_endian}
 use Rattle.motor_messages.specs.Ending.{ending_outside}
-use borrow.Author.Rules.{rules}
 use Rattle.motor_messages.proofs.ending_outside.Goals as goal
 
 third : (at : ℕ) → at + 1 + 1 ≡ at + 2

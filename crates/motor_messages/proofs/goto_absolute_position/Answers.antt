@@ -1,6 +1,6 @@
 use native.Mathlib.Omega.{arith}
 use mathlib.Core.Path.{sym, ◌∙◌}
-use borrow.Author.Tests.{eq-eqb, ne_eqb, not-true, not-false}
+use borrow.Author.Tests.{eq-eqb, ne_eqb}
 use Rattle.protocol.specs.Number.{little_endian}
 use Rattle.protocol.specs.Form.{layout}
 use Rattle.protocol.specs.Decode.{decode_form}
@@ -8,7 +8,6 @@ use mir.Facts.{to_z-of_z}
 use mir.Syntax.{w32}
 use Rattle.motor_messages.proofs.Endings.{ending_inside, ending_refused}
 use Rattle.motor_messages.proofs.Accepted.{position_accepted}
-use borrow.Author.Rules.{rules}
 use Rattle.motor_messages.proofs.goto_absolute_position.Goals as goal
 
 pub returns-then-s-ne14 : goal.returns-then-s-ne14
@@ -33,4 +32,4 @@ returns-then-place-ne0 c =
 pub returns : goal.returns
 returns c =
     let c1 = c in let c2 = c in let c3 = c in let c4 = c in let c5 = c in let c6 = c in let c7 = c in let c8 = c in let c9 = c in let c10 = c in let inside = ending_inside c10.args.s.now 11 (omega arith) (sym c3.if-place-ne0.false ∙ c4.ending_outside-place.ensures) in
-    rw (to_z-of_z {w = w32} {z = c1.i32_of.result} (record { sfits = c1.i32_of.type-inv }), c1.i32_of.ensures, c2.u32_at.ensures) (sym (position_accepted c10.args.s.now (sym c8.is_start_byte.ensures ∙ c7.if-not-is_start_byte.false) c10.requires c9.if-s-ne14.false (sym c6.between.ensures ∙ c5.if-not-between.false) inside))
+    rw (to_z-of_z {w = w32} {z = c1.i32_of.result} (record { sfits = c1.i32_of.type_inv }), c1.i32_of.ensures, c2.u32_at.ensures) (sym (position_accepted c10.args.s.now (sym c8.is_start_byte.ensures ∙ c7.if-not-is_start_byte.false) c10.requires c9.if-s-ne14.false (sym c6.between.ensures ∙ c5.if-not-between.false) inside))

@@ -1,6 +1,6 @@
 use native.Mathlib.Omega.{arith}
 use mathlib.Core.Path.{sym, ◌∙◌}
-use borrow.Author.Tests.{eq-eqb, ne_eqb, not-true, not-false}
+use borrow.Author.Tests.{eq-eqb, ne_eqb}
 use Rattle.protocol.specs.Number.{little_endian}
 use Rattle.protocol.specs.Form.{layout}
 use Rattle.protocol.specs.Decode.{decode_form}
@@ -8,7 +8,6 @@ use mir.Facts.{to_z-of_z}
 use mir.Syntax.{w32}
 use Rattle.motor_messages.proofs.Endings.{ending_inside, ending_refused}
 use Rattle.motor_messages.proofs.Accepted.{positions_accepted}
-use borrow.Author.Rules.{rules}
 use Rattle.motor_messages.proofs.goto_absolute_positions.Goals as goal
 
 pub returns-then-s-ne18 : goal.returns-then-s-ne18
@@ -33,4 +32,4 @@ returns-then-place-ne0 c =
 pub returns : goal.returns
 returns c =
     let c1 = c in let c2 = c in let c3 = c in let c4 = c in let c5 = c in let c6 = c in let c7 = c in let c8 = c in let c9 = c in let c10 = c in let c11 = c in let c12 = c in let inside = ending_inside c12.args.s.now 15 (omega arith) (sym c5.if-place-ne0.false ∙ c6.ending_outside-place.ensures) in
-    rw (to_z-of_z {w = w32} {z = c3.i32_of.result} (record { sfits = c3.i32_of.type-inv }), to_z-of_z {w = w32} {z = c1.i32_of-2.result} (record { sfits = c1.i32_of-2.type-inv }), c3.i32_of.ensures, c1.i32_of-2.ensures, c4.u32_at.ensures, c2.u32_at-2.ensures) (sym (positions_accepted c12.args.s.now (sym c10.is_start_byte.ensures ∙ c9.if-not-is_start_byte.false) c12.requires c11.if-s-ne18.false (sym c8.between.ensures ∙ c7.if-not-between.false) inside))
+    rw (to_z-of_z {w = w32} {z = c3.i32_of.result} (record { sfits = c3.i32_of.type_inv }), to_z-of_z {w = w32} {z = c1.i32_of-2.result} (record { sfits = c1.i32_of-2.type_inv }), c3.i32_of.ensures, c1.i32_of-2.ensures, c4.u32_at.ensures, c2.u32_at-2.ensures) (sym (positions_accepted c12.args.s.now (sym c10.is_start_byte.ensures ∙ c9.if-not-is_start_byte.false) c12.requires c11.if-s-ne18.false (sym c8.between.ensures ∙ c7.if-not-between.false) inside))

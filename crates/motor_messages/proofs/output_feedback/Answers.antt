@@ -1,6 +1,5 @@
 use mathlib.Core.Path.{sym, ◌∙◌}
 use Rattle.motor_messages.proofs.Feedback.{too_few, too_many, half_a_pair, whole_pairs, no_size, feedback_wrong, feedback_right}
-use borrow.Author.Rules.{rules}
 use Rattle.motor_messages.proofs.output_feedback.Goals as goal
 
 pub returns-then-size-lt5 : goal.returns-then-size-lt5

@@ -1,6 +1,6 @@
 use Prim.Native.Nat.{◌<◌}
 use mathlib.Core.Path.{sym, ◌∙◌}
-use borrow.Author.Tests.{le-ltb, ne_eqb}
+use borrow.Author.Tests.{le-ltb}
 use lib.ListN.{length}
 use Rattle.protocol.proofs.Selection.{too_short}
 use Rattle.protocol.specs.Decode.{decode_type}
@@ -37,5 +37,4 @@ returns-in-20 c =
 
 pub returns-in_default : goal.returns-in_default
 unfolding port_output_command decode_type
-returns-in_default c =
-    let c1 = c in simp (c.outside.ensures, le-ltb _ _ c1.if-s-lt6.false, ne_eqb _ _ c.in-12.rest.0.0.0.1, ne_eqb _ _ c.in-12.rest.0.0.1, ne_eqb _ _ c.in-12.rest.0.1, ne_eqb _ _ c.in-12.rest.1)
+returns-in_default c = simp (c.outside.ensures, le-ltb _ _ c.if-s-lt6.false) (search rules)

@@ -1,11 +1,10 @@
 use mathlib.Core.Path.{sym, ◌∙◌}
-use borrow.Author.Tests.{eq-eqb, ne_eqb, not-true, not-false}
+use borrow.Author.Tests.{eq-eqb, ne_eqb}
 use Rattle.protocol.specs.Number.{little_endian}
 use Rattle.protocol.specs.Form.{layout}
 use Rattle.protocol.specs.Decode.{decode_form}
 use mir.Facts.{to_z-of_z}
 use mir.Syntax.{w32}
-use borrow.Author.Rules.{rules}
 use Rattle.motor_messages.proofs.preset_encoders.Goals as goal
 
 pub returns-then-s-ne14 : goal.returns-then-s-ne14
@@ -20,4 +19,4 @@ returns-then-not-is_start_byte c =
 pub returns : goal.returns
 unfolding decode_form layout little_endian
 returns c =
-    let c1 = c in let c2 = c in let c3 = c in let c4 = c in let c5 = c in let c6 = c in rw (to_z-of_z {w = w32} {z = c.i32_of-2.result} (record { sfits = c.i32_of-2.type-inv }), to_z-of_z {w = w32} {z = c1.i32_of.result} (record { sfits = c1.i32_of.type-inv })) (simp (c.i32_of-2.ensures, c.u32_at-2.ensures, c1.i32_of.ensures, c2.u32_at.ensures, sym c4.is_start_byte.ensures ∙ c3.if-not-is_start_byte.false, eq-eqb _ _ c5.if-s-ne14.false, c6.requires))
+    let c1 = c in let c2 = c in let c3 = c in let c4 = c in let c5 = c in let c6 = c in rw (to_z-of_z {w = w32} {z = c.i32_of-2.result} (record { sfits = c.i32_of-2.type_inv }), to_z-of_z {w = w32} {z = c1.i32_of.result} (record { sfits = c1.i32_of.type_inv })) (simp (c.i32_of-2.ensures, c.u32_at-2.ensures, c1.i32_of.ensures, c2.u32_at.ensures, sym c4.is_start_byte.ensures ∙ c3.if-not-is_start_byte.false, eq-eqb _ _ c5.if-s-ne14.false, c6.requires))

@@ -2,7 +2,6 @@ use Rattle.protocol.specs.Number.{little_endian}
 use Rattle.protocol.specs.Decode.{decode_form}
 use Rattle.protocol.specs.Form.{layout}
 use borrow.Author.Tests.{ne_eqb, eq-eqb}
-use borrow.Author.Rules.{rules}
 use Rattle.port_messages.proofs.detached.Goals as goal
 
 pub returns-then-s-ne5 : goal.returns-then-s-ne5

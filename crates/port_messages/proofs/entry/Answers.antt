@@ -1,6 +1,5 @@
 use borrow.Author.Tests.{lt-ltb, le-ltb}
 use Rattle.protocol.specs.Form.{word}
-use borrow.Author.Rules.{rules}
 use Rattle.port_messages.proofs.entry.Goals as goal
 
 pub returns-then-i-count : goal.returns-then-i-count

@@ -1,5 +1,5 @@
 use Rattle.protocol.specs.Decode.{decode_type}
-use borrow.Author.Tests.{le-ltb, ne_eqb}
+use borrow.Author.Tests.{le-ltb}
 use Rattle.protocol.proofs.Selection.{too_short}
 use Rattle.protocol.specs.Types.{hub_attached_io}
 use mathlib.Core.Path.{sym, ◌∙◌}
@@ -27,6 +27,4 @@ returns-in-2 c =
 
 pub returns-in_default : goal.returns-in_default
 unfolding hub_attached_io decode_type
-returns-in_default c =
-    let c1 = c in let r = c.in-0.rest in
-    simp (c.outside.ensures, le-ltb _ _ c1.if-s-lt5.false, ne_eqb _ _ r.0.0.1, ne_eqb _ _ r.0.1, ne_eqb _ _ r.1)
+returns-in_default c = simp (c.outside.ensures, le-ltb _ _ c.if-s-lt5.false) (search rules)

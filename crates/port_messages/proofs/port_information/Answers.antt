@@ -2,7 +2,7 @@ use Rattle.protocol.proofs.Selection.{too_short}
 use Rattle.protocol.specs.Decode.{decode_type}
 use Rattle.protocol.specs.Types.{port_information}
 use mathlib.Core.Path.{sym, ◌∙◌}
-use borrow.Author.Tests.{le-ltb, ne_eqb}
+use borrow.Author.Tests.{le-ltb}
 use borrow.Author.Rules.{rules}
 use Rattle.port_messages.proofs.port_information.Goals as goal
 
@@ -22,5 +22,4 @@ returns-in-2 c =
 
 pub returns-in_default : goal.returns-in_default
 unfolding port_information decode_type
-returns-in_default c =
-    let c1 = c in simp (c.outside.ensures, le-ltb _ _ c1.if-s-lt5.false, ne_eqb _ _ c.in-1.rest.0.1, ne_eqb _ _ c.in-1.rest.1)
+returns-in_default c = simp (c.outside.ensures, le-ltb _ _ c.if-s-lt5.false) (search rules)

@@ -1,4 +1,3 @@
-use borrow.Author.Rules.{rules}
 use borrow.Author.Tests.{le-leb, lt-leb}
 use Rattle.protocol.specs.Number.{little_endian}
 use Rattle.protocol.specs.Form.{layout}

@@ -4,7 +4,7 @@ use Rattle.protocol.proofs.Selection.{too_short}
 use Rattle.protocol.specs.Decode.{decode_type}
 use Rattle.protocol.specs.Types.{virtual_port_setup}
 use mathlib.Core.Path.{sym, ◌∙◌}
-use borrow.Author.Tests.{le-ltb, ne_eqb}
+use borrow.Author.Tests.{le-ltb}
 use borrow.Author.Rules.{rules}
 use Rattle.port_messages.proofs.virtual_port_setup.Goals as goal
 
@@ -27,5 +27,4 @@ returns-in-1 c =
 
 pub returns-in_default : goal.returns-in_default
 unfolding virtual_port_setup decode_type
-returns-in_default c =
-    let c1 = c in simp (c.outside.ensures, le-ltb _ _ c1.if-s-lt4.false, ne_eqb _ _ c.in-0.rest.0.1, ne_eqb _ _ c.in-0.rest.1)
+returns-in_default c = simp (c.outside.ensures, le-ltb _ _ c.if-s-lt4.false) (search rules)

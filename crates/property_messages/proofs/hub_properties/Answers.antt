@@ -3,7 +3,6 @@ use borrow.Author.Tests.{lt-ltb, le-ltb}
 use Rattle.protocol.proofs.Properties.{selectors_inside, selector_outside}
 use Rattle.protocol.specs.Types.{hub_properties}
 use Rattle.protocol.specs.Decode.{decode_type, refused}
-use borrow.Author.Rules.{rules}
 use Rattle.property_messages.proofs.hub_properties.Goals as goal
 
 pub returns-then-s-lt5 : goal.returns-then-s-lt5

@@ -1,4 +1,3 @@
-use borrow.Author.Tests.{ne_eqb}
 use Rattle.protocol.specs.Types.{payload}
 use Rattle.protocol.specs.Properties.{longest}
 use borrow.Author.Rules.{rules}
@@ -54,6 +53,4 @@ returns-in-14 c = simp (c.property_address-in-14.ensures, c.in-14.is)
 
 pub returns-in_default : goal.returns-in_default
 unfolding payload
-returns-in_default c =
-    let r = c.in-1.rest in
-    simp (c.property_byte.ensures, ne_eqb _ _ r.0.0.0.0.0.0.0.0.1, ne_eqb _ _ r.0.0.0.0.0.0.0.1, ne_eqb _ _ r.0.0.0.0.0.0.1, ne_eqb _ _ r.0.0.0.0.0.1, ne_eqb _ _ r.0.0.0.0.1, ne_eqb _ _ r.0.0.0.1, ne_eqb _ _ r.0.0.1, ne_eqb _ _ r.0.1, ne_eqb _ _ r.1)
+returns-in_default c = simp c.property_byte.ensures (search rules)

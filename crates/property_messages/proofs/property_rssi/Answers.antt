@@ -1,4 +1,3 @@
-use borrow.Author.Rules.{rules}
 use borrow.Author.Tests.{eq-eqb, ne_eqb}
 use mir.Facts.{to_z-of_z}
 use mir.Syntax.{w8}
@@ -15,4 +14,4 @@ returns-then-s-ne6 c =
 pub returns : goal.returns
 unfolding decode_form layout little_endian
 returns c =
-    let c1 = c in let c2 = c in rw (to_z-of_z {w = w8} {z = c.i8_of.result} (record { sfits = c.i8_of.type-inv })) (simp (c.i8_of.ensures, eq-eqb _ _ c1.if-s-ne6.false, c2.requires))
+    let c1 = c in let c2 = c in rw (to_z-of_z {w = w8} {z = c.i8_of.result} (record { sfits = c.i8_of.type_inv })) (simp (c.i8_of.ensures, eq-eqb _ _ c1.if-s-ne6.false, c2.requires))

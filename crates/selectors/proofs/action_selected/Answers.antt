@@ -1,5 +1,4 @@
 use mathlib.Core.Path.{sym, ◌∙◌}
-use borrow.Author.Rules.{rules}
 use Rattle.selectors.proofs.action_selected.Goals as goal
 
 pub returns-then-is_action : goal.returns-then-is_action

@@ -1,6 +1,4 @@
 use mathlib.Core.Path.{sym, ◌∙◌}
-use borrow.Author.Tests.{not-true, not-false}
-use borrow.Author.Rules.{rules}
 use Rattle.selectors.proofs.alert_selected.Goals as goal
 
 pub returns-then-not-between : goal.returns-then-not-between

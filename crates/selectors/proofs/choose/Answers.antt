@@ -1,11 +1,11 @@
 use mathlib.Core.Path.{◌≡◌, refl, sym, ◌∙◌, ap}
 use mathlib.Core.Bool.{Bool, true}
+use native.Mathlib.Omega.{arith}
 use native.Mathlib.Nat.{zero-add}
 use Rattle.protocol.specs.Form
 use Rattle.protocol.specs.Form.{forms_by}
 use Rattle.selectors.proofs.Choices.{numbered, each_found}
 use Rattle.selectors.specs.Choice.{down_only, up_only, alert_choice, choice_of, form_at}
-use borrow.Author.Rules.{rules}
 use Rattle.selectors.proofs.choose.Goals as goal
 
 pub returns-in-1 : goal.returns-in-1
@@ -240,43 +240,5 @@ pub returns-in_default : goal.returns-in_default
 unfolding form_at
 returns-in_default c =
     let a = c.args in
-    let ne1 = c.in-1.rest.0.0.0.0.0.0.0.0.0.0.0.0.0.0.0.0.0.0.0.0.0.0.0.0.0.0.0.0.0.0.0.0.0.0.0.0.0.1 in
-    let ne2 = c.in-1.rest.0.0.0.0.0.0.0.0.0.0.0.0.0.0.0.0.0.0.0.0.0.0.0.0.0.0.0.0.0.0.0.0.0.0.0.0.1 in
-    let ne3 = c.in-1.rest.0.0.0.0.0.0.0.0.0.0.0.0.0.0.0.0.0.0.0.0.0.0.0.0.0.0.0.0.0.0.0.0.0.0.0.1 in
-    let ne4 = c.in-1.rest.0.0.0.0.0.0.0.0.0.0.0.0.0.0.0.0.0.0.0.0.0.0.0.0.0.0.0.0.0.0.0.0.0.0.1 in
-    let ne5 = c.in-1.rest.0.0.0.0.0.0.0.0.0.0.0.0.0.0.0.0.0.0.0.0.0.0.0.0.0.0.0.0.0.0.0.0.0.1 in
-    let ne6 = c.in-1.rest.0.0.0.0.0.0.0.0.0.0.0.0.0.0.0.0.0.0.0.0.0.0.0.0.0.0.0.0.0.0.0.0.1 in
-    let ne7 = c.in-1.rest.0.0.0.0.0.0.0.0.0.0.0.0.0.0.0.0.0.0.0.0.0.0.0.0.0.0.0.0.0.0.0.1 in
-    let ne8 = c.in-1.rest.0.0.0.0.0.0.0.0.0.0.0.0.0.0.0.0.0.0.0.0.0.0.0.0.0.0.0.0.0.0.1 in
-    let ne9 = c.in-1.rest.0.0.0.0.0.0.0.0.0.0.0.0.0.0.0.0.0.0.0.0.0.0.0.0.0.0.0.0.0.1 in
-    let ne10 = c.in-1.rest.0.0.0.0.0.0.0.0.0.0.0.0.0.0.0.0.0.0.0.0.0.0.0.0.0.0.0.0.1 in
-    let ne11 = c.in-1.rest.0.0.0.0.0.0.0.0.0.0.0.0.0.0.0.0.0.0.0.0.0.0.0.0.0.0.0.1 in
-    let ne12 = c.in-1.rest.0.0.0.0.0.0.0.0.0.0.0.0.0.0.0.0.0.0.0.0.0.0.0.0.0.0.1 in
-    let ne13 = c.in-1.rest.0.0.0.0.0.0.0.0.0.0.0.0.0.0.0.0.0.0.0.0.0.0.0.0.0.1 in
-    let ne14 = c.in-1.rest.0.0.0.0.0.0.0.0.0.0.0.0.0.0.0.0.0.0.0.0.0.0.0.0.1 in
-    let ne16 = c.in-1.rest.0.0.0.0.0.0.0.0.0.0.0.0.0.0.0.0.0.0.0.0.0.0.0.1 in
-    let ne17 = c.in-1.rest.0.0.0.0.0.0.0.0.0.0.0.0.0.0.0.0.0.0.0.0.0.0.1 in
-    let ne18 = c.in-1.rest.0.0.0.0.0.0.0.0.0.0.0.0.0.0.0.0.0.0.0.0.0.1 in
-    let ne22 = c.in-1.rest.0.0.0.0.0.0.0.0.0.0.0.0.0.0.0.0.0.0.0.0.1 in
-    let ne23 = c.in-1.rest.0.0.0.0.0.0.0.0.0.0.0.0.0.0.0.0.0.0.0.1 in
-    let ne24 = c.in-1.rest.0.0.0.0.0.0.0.0.0.0.0.0.0.0.0.0.0.0.1 in
-    let ne25 = c.in-1.rest.0.0.0.0.0.0.0.0.0.0.0.0.0.0.0.0.0.1 in
-    let ne26 = c.in-1.rest.0.0.0.0.0.0.0.0.0.0.0.0.0.0.0.0.1 in
-    let ne27 = c.in-1.rest.0.0.0.0.0.0.0.0.0.0.0.0.0.0.0.1 in
-    let ne28 = c.in-1.rest.0.0.0.0.0.0.0.0.0.0.0.0.0.0.1 in
-    let ne29 = c.in-1.rest.0.0.0.0.0.0.0.0.0.0.0.0.0.1 in
-    let ne30 = c.in-1.rest.0.0.0.0.0.0.0.0.0.0.0.0.1 in
-    let ne31 = c.in-1.rest.0.0.0.0.0.0.0.0.0.0.0.1 in
-    let ne32 = c.in-1.rest.0.0.0.0.0.0.0.0.0.0.1 in
-    let ne33 = c.in-1.rest.0.0.0.0.0.0.0.0.0.1 in
-    let ne34 = c.in-1.rest.0.0.0.0.0.0.0.0.1 in
-    let ne35 = c.in-1.rest.0.0.0.0.0.0.0.1 in
-    let ne36 = c.in-1.rest.0.0.0.0.0.0.1 in
-    let ne37 = c.in-1.rest.0.0.0.0.0.1 in
-    let ne38 = c.in-1.rest.0.0.0.0.1 in
-    let ne39 = c.in-1.rest.0.0.0.1 in
-    let ne40 = c.in-1.rest.0.0.1 in
-    let ne41 = c.in-1.rest.0.1 in
-    let ne42 = c.in-1.rest.1 in
     c.goes_down-in_default.ensures ∙ each_found (λ f. down_only a.way true 0 ≡ choice_of f a.way a.a a.b a.c) a.form Form.go_into_boot_mode refl (forms_by 0) 0 a.form (sym (zero-add a.form))
-    ((λ e. refl), ((λ e. absurd (ne1 e)), ((λ e. absurd (ne2 e)), ((λ e. absurd (ne3 e)), ((λ e. absurd (ne4 e)), ((λ e. absurd (ne5 e)), ((λ e. absurd (ne6 e)), ((λ e. absurd (ne7 e)), ((λ e. absurd (ne8 e)), ((λ e. absurd (ne9 e)), ((λ e. absurd (ne10 e)), ((λ e. absurd (ne11 e)), ((λ e. absurd (ne12 e)), ((λ e. absurd (ne13 e)), ((λ e. absurd (ne14 e)), ((λ e. refl), ((λ e. absurd (ne16 e)), ((λ e. absurd (ne17 e)), ((λ e. absurd (ne18 e)), ((λ e. refl), ((λ e. refl), ((λ e. refl), ((λ e. absurd (ne22 e)), ((λ e. absurd (ne23 e)), ((λ e. absurd (ne24 e)), ((λ e. absurd (ne25 e)), ((λ e. absurd (ne26 e)), ((λ e. absurd (ne27 e)), ((λ e. absurd (ne28 e)), ((λ e. absurd (ne29 e)), ((λ e. absurd (ne30 e)), ((λ e. absurd (ne31 e)), ((λ e. absurd (ne32 e)), ((λ e. absurd (ne33 e)), ((λ e. absurd (ne34 e)), ((λ e. absurd (ne35 e)), ((λ e. absurd (ne36 e)), ((λ e. absurd (ne37 e)), ((λ e. absurd (ne38 e)), ((λ e. absurd (ne39 e)), ((λ e. absurd (ne40 e)), ((λ e. absurd (ne41 e)), ((λ e. absurd (ne42 e)), tt)))))))))))))))))))))))))))))))))))))))))))
+    ((λ e. refl), ((λ e. absurd (omega arith)), ((λ e. absurd (omega arith)), ((λ e. absurd (omega arith)), ((λ e. absurd (omega arith)), ((λ e. absurd (omega arith)), ((λ e. absurd (omega arith)), ((λ e. absurd (omega arith)), ((λ e. absurd (omega arith)), ((λ e. absurd (omega arith)), ((λ e. absurd (omega arith)), ((λ e. absurd (omega arith)), ((λ e. absurd (omega arith)), ((λ e. absurd (omega arith)), ((λ e. absurd (omega arith)), ((λ e. refl), ((λ e. absurd (omega arith)), ((λ e. absurd (omega arith)), ((λ e. absurd (omega arith)), ((λ e. refl), ((λ e. refl), ((λ e. refl), ((λ e. absurd (omega arith)), ((λ e. absurd (omega arith)), ((λ e. absurd (omega arith)), ((λ e. absurd (omega arith)), ((λ e. absurd (omega arith)), ((λ e. absurd (omega arith)), ((λ e. absurd (omega arith)), ((λ e. absurd (omega arith)), ((λ e. absurd (omega arith)), ((λ e. absurd (omega arith)), ((λ e. absurd (omega arith)), ((λ e. absurd (omega arith)), ((λ e. absurd (omega arith)), ((λ e. absurd (omega arith)), ((λ e. absurd (omega arith)), ((λ e. absurd (omega arith)), ((λ e. absurd (omega arith)), ((λ e. absurd (omega arith)), ((λ e. absurd (omega arith)), ((λ e. absurd (omega arith)), ((λ e. absurd (omega arith)), tt)))))))))))))))))))))))))))))))))))))))))))

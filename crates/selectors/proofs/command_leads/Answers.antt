@@ -1,4 +1,3 @@
-use borrow.Author.Rules.{rules}
 use Rattle.selectors.proofs.command_leads.Goals as goal
 
 pub returns-in-Down : goal.returns-in-Down

@@ -1,4 +1,3 @@
-use borrow.Author.Rules.{rules}
 use Rattle.selectors.proofs.goes_down.Goals as goal
 
 pub returns-else-leads : goal.returns-else-leads

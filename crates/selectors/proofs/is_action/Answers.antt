@@ -1,4 +1,3 @@
-use borrow.Author.Rules.{rules}
 use Rattle.selectors.proofs.is_action.Goals as goal
 
 pub returns-in-Down : goal.returns-in-Down

@@ -1,5 +1,3 @@
-use mathlib.Core.Bool.{or-false}
-use borrow.Author.Tests.{ne_eqb}
 use Rattle.selectors.proofs.is_range.Goals as goal
 
 pub returns-in-1 : goal.returns-in-1
@@ -10,6 +8,3 @@ returns-in-2 c = rw c.in-2.is
 
 pub returns-in-3 : goal.returns-in-3
 returns-in-3 c = rw c.in-3.is
-
-pub returns-in_default : goal.returns-in_default
-returns-in_default c = simp (ne_eqb _ _ c.in-1.rest.0.0.1, ne_eqb _ _ c.in-1.rest.0.1, ne_eqb _ _ c.in-1.rest.1, or-false)

@@ -2,7 +2,6 @@ use mathlib.Core.Path.{sym, ◌∙◌, ap}
 use mathlib.Core.Bool.{Bool, ◌||◌, or-false}
 use mathlib.Core.List.{[], ◌∷◌}
 use Rattle.protocol.specs.Rule.{one_of}
-use borrow.Author.Rules.{rules}
 use Rattle.selectors.proofs.is_setup.Goals as goal
 
 pub returns-then-between : goal.returns-then-between

@@ -1,5 +1,4 @@
 use mathlib.Core.Path.{sym, ◌∙◌}
-use borrow.Author.Tests.{ne_eqb}
 use Rattle.protocol.specs.Types.{payload}
 use Rattle.selectors.specs.Choice.{property_form}
 use borrow.Author.Rules.{rules}
@@ -43,10 +42,7 @@ returns-in-14 c = rw (sym c.carries.ensures ∙ c.if-carries.true, c.in-14.is)
 
 pub returns-in_default : goal.returns-in_default
 unfolding property_form payload
-returns-in_default c =
-    let carried = sym c.carries.ensures ∙ c.if-carries.true in
-    let r = c.in-1.rest.0.0.0.0 in
-    simp (carried, ne_eqb _ _ r.0.0.0.0.1, ne_eqb _ _ r.0.0.0.1, ne_eqb _ _ r.0.0.1, ne_eqb _ _ r.0.1, ne_eqb _ _ r.1, ne_eqb _ _ c.in-1.rest.0.0.0.1, ne_eqb _ _ c.in-1.rest.0.0.1, ne_eqb _ _ c.in-1.rest.0.1, ne_eqb _ _ c.in-1.rest.1)
+returns-in_default c = search rules
 
 pub returns-else-carries : goal.returns-else-carries
 unfolding property_form

@@ -1,6 +1,5 @@
 use mathlib.Core.Path.{sym}
 use borrow.Author.Tests.{eq-eqb, ne_eqb}
-use borrow.Author.Rules.{rules}
 use Rattle.selectors.proofs.property_selected.Goals as goal
 
 pub returns-then-place-ne0 : goal.returns-then-place-ne0

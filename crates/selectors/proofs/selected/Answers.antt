@@ -1,6 +1,5 @@
 use Rattle.selectors.proofs.Choices.{right_by, message_right}
 use Rattle.selectors.specs.Choice.{form_at}
-use borrow.Author.Rules.{rules}
 use Rattle.selectors.proofs.selected.Goals as goal
 
 pub returns-in-PropertyCommand : goal.returns-in-PropertyCommand

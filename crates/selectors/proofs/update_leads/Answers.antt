@@ -1,5 +1,4 @@
 use mathlib.Core.Bool.{or-false}
-use borrow.Author.Rules.{rules}
 use Rattle.selectors.proofs.update_leads.Goals as goal
 
 pub returns-in-Up : goal.returns-in-Up

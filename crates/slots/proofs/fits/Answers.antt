@@ -6,59 +6,59 @@ use borrow.Author.Rules.{rules}
 use Rattle.slots.proofs.fits.Goals as goal
 
 pub returns-in-Nothing : goal.returns-in-Nothing
-returns-in-Nothing c = sym (tested c.args.slot _ c.well-formed.0 ∙ ap slot_test c.in-Nothing.is)
+returns-in-Nothing c = sym (tested c.args.slot _ c.well_formed.0 ∙ ap slot_test c.in-Nothing.is)
 
 pub returns-in-Byte : goal.returns-in-Byte
-returns-in-Byte c = sym (tested c.args.slot _ c.well-formed.0 ∙ ap slot_test c.in-Byte.is)
+returns-in-Byte c = sym (tested c.args.slot _ c.well_formed.0 ∙ ap slot_test c.in-Byte.is)
 
 pub returns-in-UpTo : goal.returns-in-UpTo
-returns-in-UpTo c = sym (tested c.args.slot _ c.well-formed.0 ∙ ap slot_test c.in-UpTo.is)
+returns-in-UpTo c = sym (tested c.args.slot _ c.well_formed.0 ∙ ap slot_test c.in-UpTo.is)
 
 pub returns-in-Between : goal.returns-in-Between
-returns-in-Between c = c.between.ensures ∙ sym (tested c.args.slot _ c.well-formed.0 ∙ ap slot_test c.in-Between.is)
+returns-in-Between c = c.between.ensures ∙ sym (tested c.args.slot _ c.well_formed.0 ∙ ap slot_test c.in-Between.is)
 
 pub returns-in-InformationType : goal.returns-in-InformationType
-returns-in-InformationType c = c.is_information_type.ensures ∙ sym (tested c.args.slot _ c.well-formed.0 ∙ ap slot_test c.in-InformationType.is)
+returns-in-InformationType c = c.is_information_type.ensures ∙ sym (tested c.args.slot _ c.well_formed.0 ∙ ap slot_test c.in-InformationType.is)
 
 pub returns-in-AlertStatus : goal.returns-in-AlertStatus
-returns-in-AlertStatus c = c.is_alert_status.ensures ∙ sym (tested c.args.slot _ c.well-formed.0 ∙ ap slot_test c.in-AlertStatus.is)
+returns-in-AlertStatus c = c.is_alert_status.ensures ∙ sym (tested c.args.slot _ c.well_formed.0 ∙ ap slot_test c.in-AlertStatus.is)
 
 pub returns-in-Word : goal.returns-in-Word
-returns-in-Word c = sym (tested c.args.slot _ c.well-formed.0 ∙ ap slot_test c.in-Word.is)
+returns-in-Word c = sym (tested c.args.slot _ c.well_formed.0 ∙ ap slot_test c.in-Word.is)
 
 pub returns-in-Long : goal.returns-in-Long
-returns-in-Long c = sym (tested c.args.slot _ c.well-formed.0 ∙ ap slot_test c.in-Long.is)
+returns-in-Long c = sym (tested c.args.slot _ c.well_formed.0 ∙ ap slot_test c.in-Long.is)
 
 pub returns-in-SignedByte : goal.returns-in-SignedByte
-returns-in-SignedByte c = sym (tested c.args.slot _ c.well-formed.0 ∙ ap slot_test c.in-SignedByte.is)
+returns-in-SignedByte c = sym (tested c.args.slot _ c.well_formed.0 ∙ ap slot_test c.in-SignedByte.is)
 
 pub returns-in-SignedLong : goal.returns-in-SignedLong
-returns-in-SignedLong c = sym (tested c.args.slot _ c.well-formed.0 ∙ ap slot_test c.in-SignedLong.is)
+returns-in-SignedLong c = sym (tested c.args.slot _ c.well_formed.0 ∙ ap slot_test c.in-SignedLong.is)
 
 pub returns-in-HighFirst : goal.returns-in-HighFirst
-returns-in-HighFirst c = sym (tested c.args.slot _ c.well-formed.0 ∙ ap slot_test c.in-HighFirst.is)
+returns-in-HighFirst c = sym (tested c.args.slot _ c.well_formed.0 ∙ ap slot_test c.in-HighFirst.is)
 
 pub returns-in-Float : goal.returns-in-Float
-returns-in-Float c = c.is_finite.ensures ∙ sym (tested c.args.slot _ c.well-formed.0 ∙ ap slot_test c.in-Float.is)
+returns-in-Float c = c.is_finite.ensures ∙ sym (tested c.args.slot _ c.well_formed.0 ∙ ap slot_test c.in-Float.is)
 
 pub returns-in-BootString : goal.returns-in-BootString
-returns-in-BootString c = sym (tested c.args.slot _ c.well-formed.0 ∙ ap slot_test c.in-BootString.is)
+returns-in-BootString c = sym (tested c.args.slot _ c.well_formed.0 ∙ ap slot_test c.in-BootString.is)
 
 pub returns-in-LockString : goal.returns-in-LockString
-returns-in-LockString c = sym (tested c.args.slot _ c.well-formed.0 ∙ ap slot_test c.in-LockString.is)
+returns-in-LockString c = sym (tested c.args.slot _ c.well_formed.0 ∙ ap slot_test c.in-LockString.is)
 
 pub returns-in-StartByte : goal.returns-in-StartByte
-returns-in-StartByte c = c.is_start_byte.ensures ∙ sym (tested c.args.slot _ c.well-formed.0 ∙ ap slot_test c.in-StartByte.is)
+returns-in-StartByte c = c.is_start_byte.ensures ∙ sym (tested c.args.slot _ c.well_formed.0 ∙ ap slot_test c.in-StartByte.is)
 
 pub returns-in-EndState : goal.returns-in-EndState
-returns-in-EndState c = c.is_end_state.ensures ∙ sym (tested c.args.slot _ c.well-formed.0 ∙ ap slot_test c.in-EndState.is)
+returns-in-EndState c = c.is_end_state.ensures ∙ sym (tested c.args.slot _ c.well_formed.0 ∙ ap slot_test c.in-EndState.is)
 
 pub returns-in-SignedSpeed : goal.returns-in-SignedSpeed
 returns-in-SignedSpeed c =
-    c.is_signed_speed.ensures ∙ ap signed_speed (same w8 c.in-SignedSpeed.value c.known_told-in-SignedSpeed-1.given.0.1)
-    ∙ sym (tested c.args.slot _ c.well-formed.0 ∙ ap slot_test c.in-SignedSpeed.is)
+    c.is_signed_speed.ensures ∙ ap signed_speed (same w8 c.in-SignedSpeed.value (search rules))
+    ∙ sym (tested c.args.slot _ c.well_formed.0 ∙ ap slot_test c.in-SignedSpeed.is)
 
 pub returns-in-Degrees : goal.returns-in-Degrees
 returns-in-Degrees c =
-    c.is_degrees.ensures ∙ ap degrees (same w32 c.in-Degrees.value c.known_told-in-Degrees-1.given.0.1)
-    ∙ sym (tested c.args.slot _ c.well-formed.0 ∙ ap slot_test c.in-Degrees.is)
+    c.is_degrees.ensures ∙ ap degrees (same w32 c.in-Degrees.value (search rules))
+    ∙ sym (tested c.args.slot _ c.well_formed.0 ∙ ap slot_test c.in-Degrees.is)

@@ -1,7 +1,6 @@
 use native.Mathlib.Omega.{arith}
 use mathlib.Core.Path.{sym, ◌∙◌, ap}
 use Rattle.slots.proofs.Ranges.{wide, slot_width}
-use borrow.Author.Rules.{rules}
 use Rattle.slots.proofs.width.Goals as goal
 
 pub returns-in-Nothing : goal.returns-in-Nothing

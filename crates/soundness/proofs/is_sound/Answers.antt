@@ -1,12 +1,7 @@
-use Prim.Native.Nat.{◌-◌, ◌≤◌}
 use native.Mathlib.Omega.{arith}
-use mathlib.Core.Path.{◌≡◌, refl, sym, ◌∙◌}
-use borrow.Author.Rules.{rules}
-use borrow.Author.Tests.{not-true, not-false}
-use Rattle.rules.specs.Layout.{places}
-use Rattle.rules.specs.Cells.{sound}
+use mathlib.Core.Path.{refl, sym, ◌∙◌}
 use Rattle.soundness.proofs.Loops.{stops, goes_on}
-use Rattle.soundness.proofs.Sound.{sound_from, sound_start, sound_next, sound_done, wrong_size}
+use Rattle.soundness.proofs.Sound.{sound_start, sound_next, sound_done, wrong_size}
 use Rattle.soundness.proofs.is_sound.Goals as goal
 
 pub returns-then-table-ne-TABLE_SIZE : goal.returns-then-table-ne-TABLE_SIZE
@@ -27,7 +22,7 @@ slice_bounds-is_sound_place-end c =
 
 pub is_sound_place-requires : goal.is_sound_place-requires
 is_sound_place-requires c =
-    let filled = c in (filled.if-table-ne-TABLE_SIZE.false, filled.note_all.ensures.right (not-false _ filled.if-not-note_all.false), c.loop-i-test.true)
+    let filled = c in (filled.if-table-ne-TABLE_SIZE.false, filled.note_all.ensures.right filled.if-not-note_all.false, c.loop-i-test.true)
 
 pub returns-then-not-is_sound_place : goal.returns-then-not-is_sound_place
 returns-then-not-is_sound_place c =

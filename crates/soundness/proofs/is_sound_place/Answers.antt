@@ -2,7 +2,6 @@ use mathlib.Core.Path.{◌∙◌}
 use Rattle.soundness.proofs.ExactCells.{empty_zeros}
 use Rattle.soundness.proofs.Sound.{free_sound, record_alone}
 use Rattle.soundness.proofs.Rows.{row_alone}
-use borrow.Author.Rules.{rules}
 use Rattle.soundness.proofs.is_sound_place.Goals as goal
 
 pub returns-then-place-eq-FREE : goal.returns-then-place-eq-FREE

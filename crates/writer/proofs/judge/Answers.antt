@@ -4,7 +4,6 @@ use Rattle.selectors.specs.declared.Choice.TheVariants.{Chosen}
 use Rattle.writer.proofs.Judging.{known, length_is}
 use Rattle.writer.proofs.Whole.{size_is}
 use Rattle.writer.specs.Writing.{answered}
-use borrow.Author.Rules.{rules}
 use Rattle.writer.proofs.judge.Goals as goal
 
 pub overflow_cast-result : goal.overflow_cast-result

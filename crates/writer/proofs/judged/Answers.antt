@@ -1,10 +1,8 @@
 use mathlib.Core.Path.{sym, ◌∙◌, ap}
-use borrow.Author.Tests.{not-true, not-false}
 use Rattle.protocol.specs.Encode.{refused}
 use Rattle.selectors.proofs.Choices.{by_choice, chosen}
 use Rattle.writer.proofs.Encoding.{wrong_size, a_field_outside, an_open_byte_outside}
 use Rattle.writer.proofs.Judging.{all_good}
-use borrow.Author.Rules.{rules}
 use Rattle.writer.proofs.judged.Goals as goal
 
 pub smallest_size-requires : goal.smallest_size-requires

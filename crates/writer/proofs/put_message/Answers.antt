@@ -7,7 +7,6 @@ use lib.Seq.{lt-length-set}
 use Rattle.writer.proofs.Whole.{size_is, header_length, short_answer, whole_answer}
 use Rattle.protocol.specs.Overwrite.{overwrite}
 use Rattle.writer.specs.Slots.{type_place}
-use borrow.Author.Rules.{rules}
 use Rattle.writer.proofs.put_message.Goals as goal
 
 pub returns-then-out-size : goal.returns-then-out-size
@@ -32,7 +31,7 @@ put_slots-requires c =
 pub put_bytes-requires : goal.put_bytes-requires
 put_bytes-requires c =
     let a = c.args in
-    omega (arith, c.put_slots.auto.0, header_length a.out.now (type_place + c.widths-end.result + length a.«open».now) 0, c.if-out-size.false)
+    omega (arith, c.put_slots.auto.out, header_length a.out.now (type_place + c.widths-end.result + length a.«open».now) 0, c.if-out-size.false)
 
 pub overflow_cast-result : goal.overflow_cast-result
 overflow_cast-result c =
@@ -43,7 +42,7 @@ overflow_cast-result c =
 pub shape_of-out : goal.shape_of-out
 shape_of-out c =
     let a = c.args in
-    c.put_bytes.auto.0 ∙ c.put_slots.auto.0 ∙ header_length a.out.now (type_place + c.widths-end.result + length a.«open».now) 0
+    c.put_bytes.auto.out ∙ c.put_slots.auto.out ∙ header_length a.out.now (type_place + c.widths-end.result + length a.«open».now) 0
 
 pub returns : goal.returns
 returns c =

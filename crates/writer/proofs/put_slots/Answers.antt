@@ -1,12 +1,11 @@
-use Prim.Native.Nat.{ℕ, ◌-◌}
+use Prim.Native.Nat.{ℕ}
 use mathlib.Core.Path.{◌≡◌, refl, sym, ◌∙◌, ap}
 use mathlib.Core.List.{List}
 use native.Mathlib.Omega.{arith}
-use borrow.Author.Rules.{rules}
 use lib.ListN.{length, get_or}
 use lib.Seq.{take_all}
 use Rattle.protocol.proofs.Overwrite.{overwrite_nothing}
-use Rattle.writer.proofs.Walk.{Put, put_here, put_one, put_length}
+use Rattle.writer.proofs.Walk.{put_here, put_one, put_length}
 use Rattle.protocol.specs.Overwrite.{overwrite}
 use Rattle.slots.specs.Slot.{slot_bytes}
 use Rattle.writer.specs.Slots.{slots_bytes, type_place}
@@ -22,7 +21,7 @@ put_slot-requires c =
     let a = c.args in
     let pre = c.requires in
     let loop = c.loop-i in
-    put_here a.out.now a.t2 Slot'.Nothing loop.out loop.at loop.i loop.invariant
+    put_here a.out.now a.slots Slot'.Nothing loop.out loop.at loop.i loop.invariant
     c.loop-i-test.true pre.0 pre.2
 
 pub overflow_add-at : goal.overflow_add-at
@@ -42,7 +41,7 @@ loop-i-preserved c =
     let pre = c.requires in
     let loop = c.loop-i in
     let put-slot = c.put_slot in
-    let slots : List Slot = a.t2 in
+    let slots : List Slot = a.slots in
     let i : ℕ = loop.i in
     let size : c.width-at.result ≡ length (slot_bytes (get_or slots i Slot'.Nothing)) = c.width-at.ensures.0 in
     rw size
@@ -52,11 +51,11 @@ loop-i-preserved c =
 pub shape_of-out : goal.shape_of-out
 shape_of-out c =
     let a = c.args in
-    put_length a.out.now a.t2 c.loop-i.out c.loop-i.at c.loop-i.i c.loop-i.invariant c.requires.2
+    put_length a.out.now a.slots c.loop-i.out c.loop-i.at c.loop-i.i c.loop-i.invariant c.requires.2
 
 pub returns : goal.returns
 returns c =
     let a = c.args in
-    let slots : List Slot = a.t2 in
+    let slots : List Slot = a.slots in
     let i : ℕ = c.loop-i.i in
     c.loop-i.invariant.done ∙ ap (λ (l : List Slot). overwrite a.out.now type_place (slots_bytes l)) (take_all i slots (omega (arith, c.requires.0, c.loop-i-test.false)))

@@ -6,9 +6,8 @@ use Rattle.protocol.specs.Answer.{form_of}
 use Rattle.protocol.specs.Decode.{smallest_size}
 use Rattle.protocol.specs.declared.Message.{Message}
 use Rattle.writer.specs.Slots.{type_place}
-use Rattle.writer.proofs.Rests.{nothing_follows}
+use Rattle.writer.proofs.Rests.{Ended, nothing_follows}
 use Rattle.writer.proofs.Sizes.{smallest_is, smallest_of}
-use borrow.Author.Rules.{rules}
 use Rattle.writer.proofs.smallest_size.Goals as goal
 
 pub returns-in-PropertyText : goal.returns-in-PropertyText
@@ -42,6 +41,15 @@ returns-in-PortValueCombined c = smallest_of c.in-PortValueCombined.is c.require
 pub returns-in_default : goal.returns-in_default
 returns-in_default c =
     let start = c in let widths = c.widths in
+    let ended : Ended c.args.m = record {
+      no_text = c.in_default.not-PropertyText;
+      no_list = c.in_default.not-PortCombinations;
+      no_mode_text = c.in_default.not-ModeText;
+      no_value = c.in_default.not-PortValue;
+      no_feedback = c.in_default.not-OutputFeedback;
+      no_datasets = c.in_default.not-ModeDatasets;
+      no_combined = c.in_default.not-PortValueCombined;
+    } in
     sym (add-zero (type_place + widths.result))
     ∙ smallest_is start.args.m start.args.slots start.requires widths.result widths.ensures.0 nothing
-    (nothing_follows start.args.m c.in-PropertyText.keys8) (λ vs. refl)
+    (nothing_follows start.args.m ended) (λ vs. refl)

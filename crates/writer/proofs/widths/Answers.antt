@@ -1,9 +1,8 @@
-use Prim.Native.Nat.{ℕ, ◌+◌, ◌*◌, ◌-◌, ◌≤◌}
+use Prim.Native.Nat.{ℕ}
 use mathlib.Core.Path.{◌≡◌, ap}
 use native.Mathlib.Omega.{arith}
 use mathlib.Core.List.{List}
 use lib.ListN.{length, drop, drop_of_length-le}
-use borrow.Author.Rules.{rules}
 use Rattle.writer.proofs.Walk.{width_here}
 use Rattle.writer.specs.Slots.{slots_bytes}
 use Rattle.slots.specs.declared.Slot.{Slot}
@@ -18,7 +17,7 @@ overflow_add-total c = record { fits = omega (arith, c.width-total.ensures.1, c.
 
 pub loop-i-preserved : goal.loop-i-preserved
 loop-i-preserved c =
-    let slots : List Slot = c.args.t1 in
+    let slots : List Slot = c.args.slots in
     let i : ℕ = c.loop-i.i in
     let total : ℕ = c.loop-i.total in
     let next = width_here slots Slot'.Nothing i total (omega (arith, c.requires, c.loop-i-test.true)) c.loop-i.invariant.2 in
@@ -26,7 +25,7 @@ loop-i-preserved c =
 
 pub returns : goal.returns
 returns c =
-    let slots : List Slot = c.args.t1 in
+    let slots : List Slot = c.args.slots in
     let i : ℕ = c.loop-i.i in
     let none : length (slots_bytes (drop i slots)) ≡ 0 = ap (λ (l : List Slot). length (slots_bytes l)) (drop_of_length-le slots {i = i} (omega (arith, c.requires, c.loop-i-test.false))) in
     (omega (arith, none, c.loop-i.invariant.2), omega (arith, c.loop-i.invariant.1, c.loop-i.invariant.0))

@@ -5,7 +5,6 @@ use Rattle.selectors.specs.declared.Choice.TheVariants.{Chosen}
 use Rattle.writer.proofs.Encoding.{refused_answer}
 use Rattle.writer.proofs.Judging.{known}
 use Rattle.writer.specs.Writing.{answered, limited, lent_after}
-use borrow.Author.Rules.{rules}
 use Rattle.writer.proofs.write.Goals as goal
 
 pub put_message-requires : goal.put_message-requires

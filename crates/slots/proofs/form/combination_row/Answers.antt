@@ -1,5 +1,4 @@
 use Rattle.slots.proofs.Rows.{combination_slots}
-use borrow.Author.Rules.{rules}
 use Rattle.slots.proofs.form.combination_row.Goals as goal
 
 pub returns : goal.returns

@@ -20,11 +20,11 @@ returns-in-PropertyByte c = slotted c.in-PropertyByte.is c.row3.ensures (record 
 
 pub returns-in-PropertyRssi : goal.returns-in-PropertyRssi
 unfolding layout
-returns-in-PropertyRssi c = slotted c.in-PropertyRssi.is c.row3-in-PropertyRssi.ensures (record { eleven = refl; fields = refl; values = rw (same w8 c.in-PropertyRssi.rssi c.known_told-in-PropertyRssi-1.given.1.0.1) })
+returns-in-PropertyRssi c = slotted c.in-PropertyRssi.is c.row3-in-PropertyRssi.ensures (record { eleven = refl; fields = refl; values = rw (same w8 c.in-PropertyRssi.rssi (search rules)) })
 
 pub returns-in-PropertyVersion : goal.returns-in-PropertyVersion
 unfolding layout
-returns-in-PropertyVersion c = slotted c.in-PropertyVersion.is c.row3-in-PropertyVersion.ensures (record { eleven = refl; fields = refl; values = rw (same w32 c.in-PropertyVersion.version c.known_told-in-PropertyVersion-1.given.1.1.0.1) })
+returns-in-PropertyVersion c = slotted c.in-PropertyVersion.is c.row3-in-PropertyVersion.ensures (record { eleven = refl; fields = refl; values = rw (same w32 c.in-PropertyVersion.version (search rules)) })
 
 pub returns-in-PropertyProtocol : goal.returns-in-PropertyProtocol
 unfolding layout
@@ -54,7 +54,7 @@ pub returns-in-Attached : goal.returns-in-Attached
 unfolding layout
 returns-in-Attached c =
     slotted c.in-Attached.is c.row5.ensures
-    (record { eleven = refl; fields = refl; values = rw (same w32 c.in-Attached.hardware c.known_told-in-Attached-1.given.1.1.0.1, same w32 c.in-Attached.software c.known_told-in-Attached-1.given.1.1.1.0.1) })
+    (record { eleven = refl; fields = refl; values = rw (same w32 c.in-Attached.hardware (search rules), same w32 c.in-Attached.software (search rules)) })
 
 pub returns-in-AttachedVirtual : goal.returns-in-AttachedVirtual
 unfolding layout
@@ -144,25 +144,25 @@ pub returns-in-StartSpeedForDegrees : goal.returns-in-StartSpeedForDegrees
 unfolding layout
 returns-in-StartSpeedForDegrees c =
     slotted c.in-StartSpeedForDegrees.is c.row9.ensures
-    (record { eleven = refl; fields = refl; values = rw (same w32 c.in-StartSpeedForDegrees.degrees c.known_told-in-StartSpeedForDegrees-1.given.1.1.0.1, same w8 c.in-StartSpeedForDegrees.speed_left c.known_told-in-StartSpeedForDegrees-1.given.1.1.1.0.1, same w8 c.in-StartSpeedForDegrees.speed_right c.known_told-in-StartSpeedForDegrees-1.given.1.1.1.1.0.1) })
+    (record { eleven = refl; fields = refl; values = rw (same w32 c.in-StartSpeedForDegrees.degrees (search rules), same w8 c.in-StartSpeedForDegrees.speed_left (search rules), same w8 c.in-StartSpeedForDegrees.speed_right (search rules)) })
 
 pub returns-in-GotoAbsolutePosition : goal.returns-in-GotoAbsolutePosition
 unfolding layout
 returns-in-GotoAbsolutePosition c =
     slotted c.in-GotoAbsolutePosition.is c.row8.ensures
-    (record { eleven = refl; fields = refl; values = rw (same w32 c.in-GotoAbsolutePosition.position c.known_told-in-GotoAbsolutePosition-1.given.1.1.0.1) })
+    (record { eleven = refl; fields = refl; values = rw (same w32 c.in-GotoAbsolutePosition.position (search rules)) })
 
 pub returns-in-GotoAbsolutePositions : goal.returns-in-GotoAbsolutePositions
 unfolding layout
 returns-in-GotoAbsolutePositions c =
     slotted c.in-GotoAbsolutePositions.is c.row9-in-GotoAbsolutePositions.ensures
-    (record { eleven = refl; fields = refl; values = rw (same w32 c.in-GotoAbsolutePositions.position_1 c.known_told-in-GotoAbsolutePositions-1.given.1.1.0.1, same w32 c.in-GotoAbsolutePositions.position_2 c.known_told-in-GotoAbsolutePositions-1.given.1.1.1.0.1) })
+    (record { eleven = refl; fields = refl; values = rw (same w32 c.in-GotoAbsolutePositions.position_1 (search rules), same w32 c.in-GotoAbsolutePositions.position_2 (search rules)) })
 
 pub returns-in-PresetEncoders : goal.returns-in-PresetEncoders
 unfolding layout
 returns-in-PresetEncoders c =
     slotted c.in-PresetEncoders.is c.row5-in-PresetEncoders.ensures
-    (record { eleven = refl; fields = refl; values = rw (same w32 c.in-PresetEncoders.left c.known_told-in-PresetEncoders-1.given.1.1.0.1, same w32 c.in-PresetEncoders.right c.known_told-in-PresetEncoders-1.given.1.1.1.0.1) })
+    (record { eleven = refl; fields = refl; values = rw (same w32 c.in-PresetEncoders.left (search rules), same w32 c.in-PresetEncoders.right (search rules)) })
 
 pub returns-in-OutputFeedback : goal.returns-in-OutputFeedback
 unfolding layout

@@ -1,13 +1,8 @@
-use Prim.Native.Nat.{◌-◌}
 use native.Mathlib.Omega.{arith}
-use mathlib.Core.Path.{◌≡◌, refl}
-use mathlib.Core.Bool.{◌&&◌}
 use lib.Dec.{eqb}
-use lib.ListN.{length, get_or, drop}
-use Rattle.soundness.specs.Soundness.{all_zeros}
+use lib.ListN.{get_or}
 use Rattle.soundness.proofs.Loops.{joins, joined}
 use Rattle.soundness.proofs.Lists.{zeros_next, zeros_done}
-use borrow.Author.Rules.{rules}
 use Rattle.soundness.proofs.exact.are_zeros.Goals as goal
 
 pub loop-k-smaller : goal.loop-k-smaller

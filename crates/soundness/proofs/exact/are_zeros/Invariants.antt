@@ -1,13 +1,8 @@
 use Prim.Native.Nat.{◌-◌}
-use native.Mathlib.Omega.{arith}
-use mathlib.Core.Path.{◌≡◌, refl}
+use mathlib.Core.Path.{◌≡◌}
 use mathlib.Core.Bool.{◌&&◌}
-use lib.Dec.{eqb}
-use lib.ListN.{length, get_or, drop}
+use lib.ListN.{length, drop}
 use Rattle.soundness.specs.Soundness.{all_zeros}
-use Rattle.soundness.proofs.Loops.{joins, joined}
-use Rattle.soundness.proofs.Lists.{zeros_next, zeros_done}
-use borrow.Author.Rules.{rules}
 use Rattle.soundness.proofs.exact.are_zeros.Given as goal
 
 abbrev pub invariant-loop-k : goal.invariant-loop-k

@@ -1,4 +1,3 @@
-use borrow.Author.Tests.{ne_eqb}
 use Rattle.soundness.specs.Soundness.{exact_wiring}
 use Rattle.soundness.proofs.ExactCells.{same}
 use borrow.Author.Rules.{rules}
@@ -18,4 +17,4 @@ returns-in-3 c = simp (c.in-3.is, same)
 
 pub returns-in_default : goal.returns-in_default
 unfolding exact_wiring
-returns-in_default c = let rest = c.in-1.rest in rw (ne_eqb _ _ rest.0.0.1, ne_eqb _ _ rest.0.1, ne_eqb _ _ rest.1)
+returns-in_default c = search rules

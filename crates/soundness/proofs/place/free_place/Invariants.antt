@@ -1,10 +1,7 @@
 use Prim.Native.Nat.{◌+◌, ◌-◌, ◌≤◌}
-use native.Mathlib.Omega.{arith}
-use mathlib.Core.Path.{◌≡◌, ◌∙◌}
-use borrow.Author.Rules.{rules}
+use mathlib.Core.Path.{◌≡◌}
 use Rattle.rules.specs.Layout.{places}
 use Rattle.soundness.specs.Place.{from_place, first_free, free_place}
-use Rattle.soundness.proofs.Places.{free_place_lem, no_free_place, free_start, free_here, free_later, free_end, step_on, step_last}
 use Rattle.soundness.proofs.place.free_place.Given as goal
 
 abbrev pub invariant-loop-place : goal.invariant-loop-place

@@ -2,7 +2,6 @@ use mathlib.Core.Path.{◌≡◌}
 use borrow.Author.Tests.{eq-eqb, ne_eqb}
 use Rattle.rules.specs.Layout.{wiring_index}
 use Rattle.soundness.specs.Place.{cell_of, port_at}
-use borrow.Author.Rules.{rules}
 use Rattle.soundness.proofs.place.is_at.Goals as goal
 
 pub returns-then-table-i-eq-FREE : goal.returns-then-table-i-eq-FREE

@@ -5,7 +5,6 @@ use lib.ListN.{length, take, drop}
 use Rattle.rules.specs.Layout.{stride}
 use Rattle.soundness.specs.Place.{place_at_index}
 use Rattle.soundness.proofs.Places.{place_size}
-use borrow.Author.Rules.{rules}
 use Rattle.soundness.proofs.place.place_at.Goals as goal
 
 pub returns : goal.returns

@@ -1,6 +1,5 @@
 use borrow.Author.Tests.{eq-eqb, ne_eqb}
 use Rattle.soundness.proofs.FactsFit.{experiment_by}
-use borrow.Author.Rules.{rules}
 use Rattle.soundness.proofs.record.experiment_fits.Goals as goal
 
 pub returns-then-place-eq0 : goal.returns-then-place-eq0

@@ -1,6 +1,5 @@
 use native.Mathlib.Omega.{arith}
 use Rattle.soundness.proofs.FactsFit.{format_fits_lem}
-use borrow.Author.Rules.{rules}
 use Rattle.soundness.proofs.record.format_fits.Goals as goal
 
 pub returns : goal.returns

@@ -1,11 +1,8 @@
 use native.Mathlib.Omega.{arith}
-use borrow.Author.Rules.{rules}
 use Rattle.soundness.proofs.Loops.{joins, joined}
-use Prim.Native.Nat.{◌-◌, ◌≤◌, ◌<◌}
-use mathlib.Core.Path.{◌≡◌, sym, ◌∙◌, ap}
+use Prim.Native.Nat.{◌-◌, ◌<◌}
+use mathlib.Core.Path.{sym, ◌∙◌, ap}
 use mathlib.Core.Bool.{Bool, ◌&&◌}
-use Rattle.rules.specs.Layout.{mode_count}
-use Rattle.soundness.specs.Soundness.{formats_in_fit}
 use Rattle.soundness.proofs.FactsFit.{formats_below, formats_start, formats_next, formats_none}
 use Rattle.soundness.proofs.record.formats_fit.Goals as goal
 

@@ -1,5 +1,4 @@
 use Rattle.soundness.proofs.Rows.{noted_right, noted_wrong, free_noted, record_noted, no_port, twice}
-use borrow.Author.Rules.{rules}
 use Rattle.soundness.proofs.row.note.Goals as goal
 
 pub returns-then-table-i-eq-FREE : goal.returns-then-table-i-eq-FREE

@@ -1,5 +1,4 @@
 use native.Mathlib.Omega.{arith}
-use borrow.Author.Rules.{rules}
 use Rattle.soundness.proofs.row.place_in.Goals as goal
 
 pub overflow_cast-result-2 : goal.overflow_cast-result-2

@@ -1,4 +1,3 @@
-use borrow.Author.Rules.{rules}
 use mathlib.Core.Path.{sym, ◌∙◌}
 use Rattle.soundness.proofs.Loops.{first_of, second_of}
 use Rattle.soundness.proofs.state.answer_state.Goals as goal

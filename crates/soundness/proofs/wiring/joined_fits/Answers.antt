@@ -1,7 +1,6 @@
 use mathlib.Core.Path.{refl}
 use borrow.Author.Tests.{lt-ltb, le-ltb}
 use Rattle.soundness.proofs.Loops.{passes, fails}
-use borrow.Author.Rules.{rules}
 use Rattle.soundness.proofs.wiring.joined_fits.Goals as goal
 
 pub returns-then-pair-lt-PORT_COUNT : goal.returns-then-pair-lt-PORT_COUNT

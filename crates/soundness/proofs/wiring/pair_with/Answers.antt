@@ -1,7 +1,6 @@
 use Rattle.rules.specs.Layout.{wiring_index, first_index, second_index}
 use Rattle.rules.specs.Cells.{cell_at}
 use Rattle.soundness.proofs.WiringFits.{pair_by}
-use borrow.Author.Rules.{rules}
 use Rattle.soundness.proofs.wiring.pair_with.Goals as goal
 
 pub returns : goal.returns

@@ -1,4 +1,3 @@
-use borrow.Author.Tests.{ne_eqb}
 use borrow.Author.Rules.{rules}
 use Rattle.soundness.proofs.wiring.wiring_fits.Goals as goal
 
@@ -9,4 +8,4 @@ pub returns-in-2 : goal.returns-in-2
 returns-in-2 c = rw c.in-2.is c.joined_fits.ensures
 
 pub returns-in_default : goal.returns-in_default
-returns-in_default c = let rest = c.in-1.rest in rw (ne_eqb _ _ rest.0.1, ne_eqb _ _ rest.1) c.virtual_fits.ensures
+returns-in_default c = search rules

@@ -2,7 +2,6 @@ use native.Mathlib.Omega.{arith}
 use mathlib.Core.Path.{refl, sym}
 use Rattle.protocol.specs.Form.{layout, feedback_pairs, mode_dataset_list}
 use Rattle.writer.proofs.Rests.{never_outside, few_bytes, first_wrong}
-use borrow.Author.Rules.{rules}
 use Rattle.writer.proofs.open.open_outside.Goals as goal
 
 pub place_of-requires : goal.place_of-requires
@@ -30,4 +29,6 @@ returns-in-ModeDatasets c =
     first_wrong a.m _ c.in-ModeDatasets.is a.«open».now 1 16 mode_dataset_list refl 6 c.repeated_entry.result _ c.place_of-in-ModeDatasets.result c.place_of-in-ModeDatasets.ensures refl c.repeated_entry.ensures (omega arith)
 
 pub returns-in_default : goal.returns-in_default
-returns-in_default c = let a = c.args in sym (never_outside a.m a.«open».now c.in-OutputFeedback.keys3)
+returns-in_default c =
+    let a = c.args in
+    sym (never_outside a.m a.«open».now c.in_default.not-OutputFeedback c.in_default.not-ModeDatasets)

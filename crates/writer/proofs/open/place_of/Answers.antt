@@ -1,5 +1,4 @@
 use borrow.Author.Tests.{lt-ltb, le-ltb}
-use borrow.Author.Rules.{rules}
 use Rattle.writer.proofs.open.place_of.Goals as goal
 
 pub returns-then-index-count : goal.returns-then-index-count

@@ -1,9 +1,6 @@
-use Prim.Native.Nat.{◌-◌}
 use mathlib.Core.Path.{refl}
 use native.Mathlib.Omega.{arith}
-use lib.ListN.{length}
-use borrow.Author.Rules.{rules}
-use Rattle.writer.proofs.Copying.{Copied, copied_none, copied_length, copied_one, copied_all}
+use Rattle.writer.proofs.Copying.{copied_none, copied_length, copied_one, copied_all}
 use Rattle.writer.proofs.put.put_bytes.Goals as goal
 
 pub loop-i-init : goal.loop-i-init

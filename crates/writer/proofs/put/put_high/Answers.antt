@@ -1,5 +1,4 @@
 use Rattle.protocol.specs.Encode.{low_first}
-use borrow.Author.Rules.{rules}
 use Rattle.writer.proofs.put.put_high.Goals as goal
 
 pub returns : goal.returns

@@ -6,10 +6,9 @@ use native.Mathlib.Nat.{sub-zero}
 use native.Mathlib.Numerals.{add-one}
 use lib.ListN.{length, get_or, drop}
 use lib.Seq.{drop-cons}
-use borrow.Author.Rules.{rules}
 use Rattle.protocol.proofs.Bytes.{low_length}
 use Rattle.protocol.specs.Encode.{low_first}
-use Rattle.writer.proofs.Copying.{Copied, copied_none, copied_length, copied_one, copied_all}
+use Rattle.writer.proofs.Copying.{copied_none, copied_length, copied_one, copied_all}
 use Rattle.writer.proofs.put.put_low.Goals as goal
 
 -- the next byte and those after it

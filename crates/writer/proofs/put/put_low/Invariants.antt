@@ -1,15 +1,8 @@
-use Prim.Native.Nat.{ℕ, suc, ◌+◌, ◌-◌, ◌/◌, ◌%◌, ◌≤◌, ◌<◌}
-use mathlib.Core.Path.{◌≡◌, sym, ◌∙◌, ap}
-use mathlib.Core.List.{List, ◌∷◌}
-use native.Mathlib.Omega.{arith}
-use native.Mathlib.Nat.{sub-zero}
-use native.Mathlib.Numerals.{add-one}
-use lib.ListN.{length, get_or, drop}
-use lib.Seq.{drop-cons}
-use borrow.Author.Rules.{rules}
-use Rattle.protocol.proofs.Bytes.{low_length}
+use Prim.Native.Nat.{◌-◌}
+use mathlib.Core.Path.{◌≡◌}
+use lib.ListN.{drop}
 use Rattle.protocol.specs.Encode.{low_first}
-use Rattle.writer.proofs.Copying.{Copied, copied_none, copied_length, copied_one, copied_all}
+use Rattle.writer.proofs.Copying.{Copied}
 use Rattle.writer.proofs.put.put_low.Given as goal
 
 abbrev pub invariant-loop-i : goal.invariant-loop-i

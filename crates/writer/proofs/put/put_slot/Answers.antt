@@ -44,10 +44,10 @@ put_high-requires c = room_at _ _ _ _ c.in-HighFirst.is c.requires.0
 
 pub float_to_bits-x : goal.float_to_bits-x
 float_to_bits-x c =
-    not_nan c.in-Float.x (finite_at_lem _ _ _ c.well-formed.1.1.0 c.requires.1 c.in-Float.is)
+    not_nan c.in-Float.x (finite_at_lem _ _ _ c.well_formed.1.1.0 c.requires.1 c.in-Float.is)
 
 pub overflow_cast-x : goal.overflow_cast-x
-overflow_cast-x c = record { fits = omega (arith, to_bits-lt binary32 c.in-Float.x (rw c.known_told-in-Float-1.given.0.1 tt)) }
+overflow_cast-x c = record { fits = omega (arith, to_bits-lt binary32 c.in-Float.x (search rules)) }
 
 pub put_low-requires-in-Float : goal.put_low-requires-in-Float
 put_low-requires-in-Float c = room_at _ _ _ _ c.in-Float.is c.requires.0
@@ -122,7 +122,7 @@ pub returns-in-SignedByte : goal.returns-in-SignedByte
 unfolding slot_bytes
 returns-in-SignedByte c =
     let a = c.args in
-    let told = c in let signed = to_z-of_z {w = w8} {z = told.in-SignedByte.value} (record { sfits = told.known_told-in-SignedByte-1.given.0.1 }) in
+    let told = c in let signed = to_z-of_z {w = w8} {z = told.in-SignedByte.value} (record { sfits = search rules }) in
     let bits = c.i8_bits.ensures ∙ ap (of_integer 1) signed in
     overwrite_at _ _ a.out.now a.at _ told.in-SignedByte.is (low_at a.out.now a.at 1 bits c.put_low-in-SignedByte.ensures)
 
@@ -130,7 +130,7 @@ pub returns-in-SignedLong : goal.returns-in-SignedLong
 unfolding slot_bytes
 returns-in-SignedLong c =
     let a = c.args in
-    let told = c in let signed = to_z-of_z {w = w32} {z = told.in-SignedLong.value} (record { sfits = told.known_told-in-SignedLong-1.given.0.1 }) in
+    let told = c in let signed = to_z-of_z {w = w32} {z = told.in-SignedLong.value} (record { sfits = search rules }) in
     let bits = c.i32_bits.ensures ∙ ap (of_integer 4) signed in
     overwrite_at _ _ a.out.now a.at _ told.in-SignedLong.is (low_at a.out.now a.at 4 bits c.put_low-in-SignedLong.ensures)
 
@@ -174,7 +174,7 @@ pub returns-in-SignedSpeed : goal.returns-in-SignedSpeed
 unfolding slot_bytes
 returns-in-SignedSpeed c =
     let a = c.args in
-    let told = c in let signed = to_z-of_z {w = w8} {z = told.in-SignedSpeed.value} (record { sfits = told.known_told-in-SignedSpeed-1.given.0.1 }) in
+    let told = c in let signed = to_z-of_z {w = w8} {z = told.in-SignedSpeed.value} (record { sfits = search rules }) in
     let bits = c.i8_bits-in-SignedSpeed.ensures ∙ ap (of_integer 1) signed in
     overwrite_at _ _ a.out.now a.at _ told.in-SignedSpeed.is (low_at a.out.now a.at 1 bits c.put_low-in-SignedSpeed.ensures)
 
@@ -182,6 +182,6 @@ pub returns-in-Degrees : goal.returns-in-Degrees
 unfolding slot_bytes
 returns-in-Degrees c =
     let a = c.args in
-    let told = c in let signed = to_z-of_z {w = w32} {z = told.in-Degrees.value} (record { sfits = told.known_told-in-Degrees-1.given.0.1 }) in
+    let told = c in let signed = to_z-of_z {w = w32} {z = told.in-Degrees.value} (record { sfits = search rules }) in
     let bits = c.i32_bits-in-Degrees.ensures ∙ ap (of_integer 4) signed in
     overwrite_at _ _ a.out.now a.at _ told.in-Degrees.is (low_at a.out.now a.at 4 bits c.put_low-in-Degrees.ensures)
