@@ -1,5 +1,5 @@
 -- The row that reading fills is the message, and writing it gives back the bytes.
-use Prim.Native.Nat.{ℕ, zero, suc, ◌+◌, ◌-◌, ◌/◌, ◌≤◌, ◌<◌}
+use Prim.Native.Nat.{ℕ, zero, suc, ◌-◌, ◌/◌, ◌≤◌, ◌<◌}
 use native.Mathlib.Omega.{arith}
 use mathlib.Core.Path.{◌≡◌, refl, ◌∙◌, ap}
 use mathlib.Core.Bool.{Bool, true}
@@ -9,7 +9,6 @@ use borrow.Author.Tests.{eq-eqb}
 use lib.ListN.{length, get_or, drop, length-append}
 use Rattle.protocol.specs.Number.{Bytes}
 use Rattle.protocol.specs.Field.{Value, natural, values, widths}
-use Rattle.protocol.specs.Form
 use Rattle.protocol.specs.Form.{Form, form_number, Rest, nothing, open_run, words, layout, wrong_byte, read_run, read_rest, words_from, up_from}
 use Rattle.protocol.specs.Decode.{accepted, header, fields_end, decode_form, decode, open_part}
 use Rattle.protocol.specs.Answer.{form_of, values_of, message_of}

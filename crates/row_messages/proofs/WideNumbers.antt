@@ -9,7 +9,6 @@ use lib.Dec.{eqb, leb}
 use Rattle.protocol.proofs.FieldTrip.{never}
 use Rattle.protocol.specs.Rule.{up_to, one_of}
 use Rattle.protocol.specs.Properties.{greatest, allowed}
-use Rattle.protocol.specs.Form
 use Rattle.protocol.specs.Form.{Form, layout, alert_status, information_type, start_byte, end_state, signed_speed, degrees}
 use Rattle.protocol.specs.Types.{types, down_action, hub_properties, hub_actions, hub_alerts, hub_attached_io, port_information, port_mode_information, combined_format_setup, virtual_port_setup, port_output_command}
 use Rattle.protocol.specs.declared.Way.{Way}

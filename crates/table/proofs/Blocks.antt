@@ -18,7 +18,7 @@ use Rattle.rules.specs.declared.Format.{Format}
 use Rattle.rules.specs.declared.Wiring.{Wiring}
 use Rattle.rules.specs.declared.Wiring.TheVariants.{Unjoined, Virtual}
 use Rattle.rules.specs.declared.Change.TheVariants.{Formatted, Answered, Asked, Listed, Combined}
-use Rattle.rules.specs.Layout.{mode_count, stride, wiring_index, port_index, device_index, first_index, second_index, state_index, asked_index, experiment_index, answered_index, formats_index, list_index, taken_index}
+use Rattle.rules.specs.Layout.{mode_count, stride, wiring_index, port_index, device_index, first_index, second_index, asked_index, answered_index, formats_index, list_index, taken_index}
 use Rattle.rules.specs.Learn.{answered_state, combined_state, take_over, learn}
 use Rattle.rules.specs.WellFormed.{asked_fits}
 use Rattle.rules.proofs.CellsRecord.{list_length, asked_back}

@@ -11,7 +11,7 @@ use lib.ListN.{length, take, drop, length-append, length-drop}
 use Rattle.protocol.proofs.Tests.{which, and_left, and_right}
 use Rattle.rules.specs.Cells.{sound}
 use Rattle.log_rules.specs.Decimal.{line_text}
-use Rattle.log_rules.specs.Record.{front, record_size}
+use Rattle.log_rules.specs.Record.{record_size}
 use Rattle.log_rules.specs.Line.{Line, record_line, cells_after_record, refusal_of, numbers_of}
 use Rattle.protocol.specs.Overwrite.{overwrite}
 use Rattle.log_rules.specs.Cutting.{Run, worked, printed}

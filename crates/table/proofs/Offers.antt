@@ -2,9 +2,7 @@
 use Prim.Native.Nat.{ℕ, ◌<◌}
 use mathlib.Core.Path.{◌≡◌, refl, sym, ◌∙◌, ap}
 use mathlib.Core.Bool.{Bool, true, false, cond}
-use mathlib.Core.List.{List, [], ◌∷◌}
-use types.Run.{OneOf, miss}
-use denote.Enum.Declared.{tag_of}
+use mathlib.Core.List.{List}
 use lib.ListN.{length}
 use Rattle.protocol.specs.Number.{Bytes}
 use Rattle.protocol.specs.Decode as Decode
@@ -26,7 +24,6 @@ use Rattle.rules.specs.Table.{full_table, apply}
 use Rattle.rules.specs.Cells.{cells_of, table_at, sound}
 use Rattle.rules.specs.Offer.{Entry, judge_reading, judge_entry, ports_of_cells, offer_by_cells, applied_to, cells_after, view_of_cells}
 use Rattle.rules.proofs.CellsSound.{sound_is}
-use Rattle.rules.specs.contracts.Effect.{the_type}
 use Rattle.rules.proofs.Kept.{fresh_by, virtual_by, wanted}
 use Rattle.rules.proofs.OpenBytes.{opens_are}
 use Rattle.rules.proofs.Ranges.{effect_fits_lem}
@@ -68,26 +65,30 @@ change_ready e s fits port c is = sym (ap (λ (x : Effect). effect_fits x (opens
 pub changed_as : (cells out s : List ℕ) (e case : Effect) → e ≡ case → out ≡ cells_of (apply case (opens_in case s) (table_at cells)) → out ≡ cells_of (apply e (opens_in e s) (table_at cells))
 changed_as cells out s e case is k = k ∙ sym (ap (λ (x : Effect). cells_of (apply x (opens_in x s) (table_at cells))) is)
 
--- the effects by which nothing changes, by their tags
-abbrev others : List ℕ
-others = 0 ∷ 5 ∷ 6 ∷ 7 ∷ 9 ∷ 10 ∷ 11 ∷ []
+-- an effect by which nothing changes
+pub record NoChange (e : Effect) : Type 0 where
+  pub not_told : (p : ℕ) (c : Change) → e ≡ Case.ToPort p c → ⊥
+  pub not_attached : (p d : ℕ) → e ≡ Case.Attach p d → ⊥
+  pub not_joined : (p d a b : ℕ) → e ≡ Case.AttachVirtual p d a b → ⊥
+  pub not_detached : (p : ℕ) → e ≡ Case.Detach p → ⊥
+  pub not_emptied : e ≡ Case.Empty → ⊥
 
-stays : (cells opens : List ℕ) (e : Effect) → OneOf others (tag_of the_type e) → apply e opens (table_at cells) ≡ table_at cells
+stays : (cells opens : List ℕ) (e : Effect) → NoChange e → apply e opens (table_at cells) ≡ table_at cells
 unfolding apply
 stays cells opens Case.Nothing t = refl
-stays cells opens (Case.ToPort p c) t = absurd (miss others 1 tt t)
-stays cells opens (Case.Attach p d) t = absurd (miss others 2 tt t)
-stays cells opens (Case.AttachVirtual p d a b) t = absurd (miss others 3 tt t)
-stays cells opens (Case.Detach p) t = absurd (miss others 4 tt t)
+stays cells opens (Case.ToPort p c) t = absurd (t.not_told p c refl)
+stays cells opens (Case.Attach p d) t = absurd (t.not_attached p d refl)
+stays cells opens (Case.AttachVirtual p d a b) t = absurd (t.not_joined p d a b refl)
+stays cells opens (Case.Detach p) t = absurd (t.not_detached p refl)
 stays cells opens (Case.Value p) t = refl
 stays cells opens (Case.Disconnect p) t = refl
 stays cells opens (Case.Connect a b) t = refl
-stays cells opens Case.Empty t = absurd (miss others 8 tt t)
+stays cells opens Case.Empty t = absurd (t.not_emptied refl)
 stays cells opens (Case.ToVirtual p) t = refl
 stays cells opens Case.Feedback t = refl
 stays cells opens (Case.CombinedValue p w) t = refl
 
-pub unchanged : (cells opens : List ℕ) (e : Effect) → sound cells ≡ true → OneOf others (tag_of the_type e) → cells ≡ cells_of (apply e opens (table_at cells))
+pub unchanged : (cells opens : List ℕ) (e : Effect) → sound cells ≡ true → NoChange e → cells ≡ cells_of (apply e opens (table_at cells))
 unchanged cells opens e s t = (sound_is cells s).0 ∙ sym (ap cells_of (stays cells opens e t))
 
 -- ---- any message

@@ -1,5 +1,4 @@
 use mathlib.Core.Path.{sym, ◌∙◌}
-use borrow.Author.Rules.{rules}
 use Rattle.queries.proofs.Queries.{format_9}
 use Rattle.queries.proofs.format.Goals as goal
 

@@ -1,5 +1,4 @@
 use mathlib.Core.Path.{sym, ◌∙◌}
-use borrow.Author.Rules.{rules}
 use Rattle.queries.proofs.Queries.{port_9}
 use Rattle.queries.proofs.port.Goals as goal
 

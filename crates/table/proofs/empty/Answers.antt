@@ -1,7 +1,6 @@
 use mathlib.Core.Path.{sym}
 use Rattle.table.proofs.Offers.{empty_refused, empty_done}
 use Rattle.stores.proofs.Zeros.{none_zeroed}
-use borrow.Author.Rules.{rules}
 use Rattle.table.proofs.empty.Goals as goal
 
 pub returns-then-table-ne-TABLE_SIZE : goal.returns-then-table-ne-TABLE_SIZE

@@ -1,6 +1,5 @@
 use Rattle.rules.specs.Offer.{Entry}
 use mathlib.Core.Path.{sym, ◌∙◌, ap}
-use borrow.Author.Rules.{rules}
 use Rattle.rules.specs.Answer.{outcome}
 use Rattle.table.proofs.Unsound.{offer_9, cells_stay}
 use Rattle.table.proofs.offer.Goals as goal

@@ -1,5 +1,4 @@
 use mathlib.Core.Path.{sym, ◌∙◌}
-use borrow.Author.Rules.{rules}
 use Rattle.table.proofs.LogBlocks.{unsound_block}
 use Rattle.table.specs.BlockAnswer.{run_of}
 use Rattle.table.proofs.read_block.Goals as goal

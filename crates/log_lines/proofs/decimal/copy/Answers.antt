@@ -1,8 +1,5 @@
-use Prim.Native.Nat.{◌-◌}
 use native.Mathlib.Omega.{arith}
-use lib.ListN.{length}
-use borrow.Author.Rules.{rules}
-use Rattle.log_rules.proofs.OverwriteIfRoom.{filled_length, Copied, copied_none, copied_room, copied_one, copied_all}
+use Rattle.log_rules.proofs.OverwriteIfRoom.{filled_length, copied_none, copied_room, copied_one, copied_all}
 use Rattle.log_lines.proofs.decimal.copy.Goals as goal
 
 pub loop-i-init : goal.loop-i-init
@@ -13,7 +10,7 @@ bounds-bytes-i c = c.loop-i-test.true
 
 pub overflow_add-out : goal.overflow_add-out
 overflow_add-out c =
-    record { fits = omega (arith, copied_room c.loop-i.invariant c.loop-i-test.true, filled_length c.loop-i.invariant.filled, c.well-formed.0.0) }
+    record { fits = omega (arith, copied_room c.loop-i.invariant c.loop-i-test.true, filled_length c.loop-i.invariant.filled) }
 
 pub bounds-out-at : goal.bounds-out-at
 bounds-out-at c = copied_room c.loop-i.invariant c.loop-i-test.true

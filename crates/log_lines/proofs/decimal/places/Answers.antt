@@ -1,5 +1,5 @@
 use native.Mathlib.Omega.{arith}
-use Rattle.log_rules.proofs.Decimals.{Counted, counted_start, counted_few, counted_more, counted_all}
+use Rattle.log_rules.proofs.Decimals.{counted_start, counted_few, counted_more, counted_all}
 use Rattle.log_lines.proofs.decimal.places.Goals as goal
 
 pub loop-rest-init : goal.loop-rest-init

@@ -1,5 +1,4 @@
-use native.Mathlib.Omega.{arith}
-use Rattle.log_rules.proofs.Decimals.{Counted, counted_start, counted_few, counted_more, counted_all}
+use Rattle.log_rules.proofs.Decimals.{Counted}
 use Rattle.log_lines.proofs.decimal.places.Given as goal
 
 abbrev pub invariant-loop-rest : goal.invariant-loop-rest

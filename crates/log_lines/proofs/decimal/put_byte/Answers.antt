@@ -1,4 +1,3 @@
-use borrow.Author.Rules.{rules}
 use Rattle.log_rules.proofs.OverwriteIfRoom.{if_room_byte, if_no_room_byte}
 use Rattle.log_lines.proofs.decimal.put_byte.Goals as goal
 

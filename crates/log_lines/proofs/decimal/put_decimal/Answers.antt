@@ -1,6 +1,5 @@
 use native.Mathlib.Omega.{arith}
 use mathlib.Core.Path.{sym, ◌∙◌}
-use borrow.Author.Rules.{rules}
 use Rattle.log_rules.specs.Decimal.{decimal}
 use Rattle.log_rules.proofs.OverwriteIfRoom.{if_room, if_no_room}
 use Rattle.log_lines.proofs.decimal.put_decimal.Goals as goal

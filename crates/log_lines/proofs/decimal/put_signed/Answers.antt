@@ -2,7 +2,6 @@ use Prim.Native.Nat.{ℕ, suc, ◌+◌, ◌≤◌}
 use native.Mathlib.Omega.{arith}
 use mathlib.Core.Path.{◌≡◌, ◌∙◌, ap}
 use mathlib.Core.List.{List, ◌∷◌}
-use borrow.Author.Rules.{rules}
 use lib.ListN.{length, set}
 use Rattle.protocol.specs.Overwrite.{overwrite}
 use Rattle.protocol.proofs.Overwrite.{overwrite_before}

@@ -1,7 +1,7 @@
 use native.Mathlib.Omega.{arith}
 use mathlib.Core.Path.{◌∙◌}
 use lib.ListN.{length-set}
-use Rattle.log_rules.proofs.Spelling.{Spelled, spelled_start, spelled_left, spelled_length, spelled_room, spelled_more, spelled_all}
+use Rattle.log_rules.proofs.Spelling.{spelled_start, spelled_left, spelled_length, spelled_room, spelled_more, spelled_all}
 use Rattle.log_lines.proofs.decimal.spell.Goals as goal
 
 pub loop-rest-init : goal.loop-rest-init
@@ -11,7 +11,7 @@ pub overflow_sub-i : goal.overflow_sub-i
 overflow_sub-i c = spelled_left c.loop-rest.invariant
 
 pub overflow_add-out-in-loop-rest : goal.overflow_add-out-in-loop-rest
-overflow_add-out-in-loop-rest c = record { fits = omega (arith, spelled_room c.loop-rest.invariant, spelled_length c.loop-rest.invariant, c.well-formed.0.0) }
+overflow_add-out-in-loop-rest c = record { fits = omega (arith, spelled_room c.loop-rest.invariant, spelled_length c.loop-rest.invariant) }
 
 pub bounds-out-at : goal.bounds-out-at
 bounds-out-at c = omega (arith, spelled_left c.loop-rest.invariant, spelled_room c.loop-rest.invariant)

@@ -1,7 +1,4 @@
-use native.Mathlib.Omega.{arith}
-use mathlib.Core.Path.{◌∙◌}
-use lib.ListN.{length-set}
-use Rattle.log_rules.proofs.Spelling.{Spelled, spelled_start, spelled_left, spelled_length, spelled_room, spelled_more, spelled_all}
+use Rattle.log_rules.proofs.Spelling.{Spelled}
 use Rattle.log_lines.proofs.decimal.spell.Given as goal
 
 abbrev pub invariant-loop-rest : goal.invariant-loop-rest

@@ -1,7 +1,5 @@
-use Prim.Native.Nat.{◌-◌}
 use native.Mathlib.Omega.{arith}
-use lib.ListN.{length}
-use Rattle.log_rules.proofs.Records.{Looked, looked_start, looked_one, looked_all}
+use Rattle.log_rules.proofs.Records.{looked_start, looked_one, looked_all}
 use Rattle.log_lines.proofs.record.all_zero.Goals as goal
 
 pub loop-i-init : goal.loop-i-init
@@ -11,7 +9,7 @@ pub bounds-s-i : goal.bounds-s-i
 bounds-s-i c = c.loop-i-test.true
 
 pub overflow_add-i : goal.overflow_add-i
-overflow_add-i c = record { fits = omega (arith, c.loop-i-test.true, c.well-formed.0.0) }
+overflow_add-i c = record { fits = omega (arith, c.loop-i-test.true) }
 
 pub loop-i-smaller : goal.loop-i-smaller
 loop-i-smaller c = omega (arith, c.loop-i-test.true)

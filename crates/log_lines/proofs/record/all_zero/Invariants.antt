@@ -1,7 +1,6 @@
 use Prim.Native.Nat.{◌-◌}
-use native.Mathlib.Omega.{arith}
 use lib.ListN.{length}
-use Rattle.log_rules.proofs.Records.{Looked, looked_start, looked_one, looked_all}
+use Rattle.log_rules.proofs.Records.{Looked}
 use Rattle.log_lines.proofs.record.all_zero.Given as goal
 
 abbrev pub invariant-loop-i : goal.invariant-loop-i

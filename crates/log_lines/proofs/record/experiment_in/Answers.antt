@@ -1,4 +1,3 @@
-use borrow.Author.Rules.{rules}
 use Rattle.log_rules.specs.Record.{experiment_in}
 use Rattle.log_lines.proofs.record.experiment_in.Goals as goal
 

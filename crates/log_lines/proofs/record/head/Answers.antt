@@ -1,7 +1,6 @@
 use native.Mathlib.Omega.{arith}
 use mathlib.Core.Path.{sym}
 use lib.Seq.{take_all, length-take-le}
-use borrow.Author.Rules.{rules}
 use Rattle.log_lines.proofs.record.head.Goals as goal
 
 pub slice_bounds-result-end : goal.slice_bounds-result-end

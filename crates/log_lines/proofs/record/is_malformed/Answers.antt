@@ -1,7 +1,6 @@
 use native.Mathlib.Omega.{arith}
 use mathlib.Core.Path.{◌∙◌, ap}
 use mathlib.Core.Bool.{not}
-use borrow.Author.Rules.{rules}
 use Rattle.log_rules.proofs.Records.{wrong_size, wrong_way, wrong_zero, by_end}
 use Rattle.log_lines.proofs.record.is_malformed.Goals as goal
 

@@ -2,7 +2,6 @@ use Prim.Native.Nat.{ℕ}
 use mathlib.Core.Path.{◌∙◌, ap}
 use mathlib.Core.List.{List}
 use lib.ListN.{take}
-use borrow.Author.Rules.{rules}
 use Rattle.log_rules.proofs.Records.{message_in_lem}
 use Rattle.log_lines.proofs.record.message_in.Goals as goal
 

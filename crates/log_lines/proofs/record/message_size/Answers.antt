@@ -1,5 +1,4 @@
 use native.Mathlib.Omega.{arith}
-use borrow.Author.Rules.{rules}
 use Rattle.log_rules.proofs.Records.{size_missing, size_over, size_told}
 use Rattle.log_lines.proofs.record.message_size.Goals as goal
 

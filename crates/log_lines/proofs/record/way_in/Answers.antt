@@ -1,4 +1,3 @@
-use borrow.Author.Rules.{rules}
 use Rattle.log_rules.proofs.Records.{way_missing, way_down, way_up}
 use Rattle.log_lines.proofs.record.way_in.Goals as goal
 

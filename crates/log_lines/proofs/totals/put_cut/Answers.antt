@@ -1,7 +1,6 @@
 use Prim.Native.Nat.{◌+◌}
 use mathlib.Core.List.{[], ◌∷◌}
 use lib.ListN.{length}
-use borrow.Author.Rules.{rules}
 use Rattle.log_rules.specs.Line as Line
 use Rattle.log_rules.specs.Output.{numbered, total_text}
 use Rattle.log_rules.proofs.Endings.{in_most_lines, in_most_refused, in_cut, none_written, cut_written}

@@ -4,7 +4,6 @@ use mathlib.Core.Path.{refl, sym, ◌∙◌, ap}
 use mathlib.Core.Bool.{Bool, true}
 use mathlib.Core.List.{List, []}
 use lib.ListN.{length}
-use borrow.Author.Rules.{rules}
 use Rattle.log_rules.specs.Output.{total_text}
 use Rattle.log_rules.specs.Ending.{ending_in}
 use Rattle.protocol.proofs.Overwrite.{overwrite_nothing}

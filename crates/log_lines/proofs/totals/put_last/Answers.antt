@@ -1,4 +1,3 @@
-use borrow.Author.Rules.{rules}
 use Rattle.log_rules.proofs.Endings.{last_written}
 use Rattle.log_lines.proofs.totals.put_last.Goals as goal
 

@@ -1,4 +1,3 @@
-use borrow.Author.Rules.{rules}
 use Rattle.log_rules.proofs.Endings.{total_written}
 use Rattle.log_lines.proofs.totals.put_total.Goals as goal
 

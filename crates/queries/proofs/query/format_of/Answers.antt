@@ -1,7 +1,6 @@
 use native.Mathlib.Omega.{arith}
 use mathlib.Core.Option.{Option}
 use mathlib.Core.Path.{sym, ◌∙◌, ap}
-use borrow.Author.Rules.{rules}
 use Rattle.rules.proofs.CellsSound.{sound_length}
 use Rattle.rules.specs.Answer.{accepted}
 use Rattle.rules.specs.Facts.{Facts}

@@ -1,6 +1,5 @@
 use mathlib.Core.Option.{Option, some}
 use mathlib.Core.Path.{sym, ◌∙◌, ap}
-use borrow.Author.Rules.{rules}
 use Rattle.rules.specs.Answer.{accepted}
 use Rattle.rules.specs.declared.Format.{Format}
 use Rattle.soundness.proofs.Bounds.{format_none, format_some}

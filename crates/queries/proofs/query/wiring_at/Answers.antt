@@ -1,7 +1,6 @@
-use Prim.Native.Nat.{◌-◌, ◌<◌}
+use Prim.Native.Nat.{◌<◌}
 use native.Mathlib.Omega.{arith}
 use mathlib.Core.Path.{sym, subst}
-use borrow.Author.Rules.{rules}
 use Rattle.rules.specs.Cells.{first_partner, second_partner}
 use Rattle.rules.specs.Layout.{port_count, wiring_index, first_index, second_index}
 use Rattle.rules.specs.declared.Wiring.{Wiring}

@@ -1,6 +1,5 @@
 use mathlib.Core.Bool.{Bool, cond}
 use mathlib.Core.Path.{sym, ◌∙◌, ap}
-use borrow.Author.Rules.{rules}
 use Rattle.table.proofs.judge.absent_refusal.Goals as goal
 
 pub returns-then-is_present : goal.returns-then-is_present

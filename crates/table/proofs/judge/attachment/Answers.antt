@@ -1,6 +1,5 @@
 use mathlib.Core.Bool.{Bool, cond}
 use mathlib.Core.Path.{sym, ◌∙◌, ap}
-use borrow.Author.Rules.{rules}
 use Rattle.rules.specs.Cells.{table_at}
 use Rattle.rules.specs.Judge.{refusal_if_full}
 use Rattle.rules.specs.Table.{full_table}

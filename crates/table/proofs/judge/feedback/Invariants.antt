@@ -1,13 +1,8 @@
 use Prim.Native.Nat.{suc, ◌-◌, ◌≤◌}
-use mathlib.Core.Path.{◌≡◌, refl, sym, ◌∙◌, ap}
-use mathlib.Core.Bool.{Bool, cond}
-use native.Mathlib.Omega.{arith}
-use borrow.Author.Rules.{rules}
-use borrow.Author.Tests.{not-true, not-false}
-use lib.ListN.{length, drop, drop_of_length-le}
+use mathlib.Core.Path.{◌≡◌}
+use lib.ListN.{length, drop}
 use Rattle.rules.specs.Judge.{all_present, ports_named}
 use Rattle.rules.specs.Offer.{view_of_cells}
-use Rattle.table.proofs.Judging.{absent_here, present_here}
 use Rattle.table.proofs.judge.feedback.Given as goal
 
 abbrev pub invariant-loop-i : goal.invariant-loop-i

@@ -1,5 +1,4 @@
 use mathlib.Core.Path.{sym, ◌∙◌, ap}
-use borrow.Author.Rules.{rules}
 use Rattle.rules.specs.Facts.{known}
 use Rattle.soundness.proofs.Places.{found}
 use Rattle.table.proofs.Judging.{known_at}

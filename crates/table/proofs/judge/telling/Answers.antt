@@ -1,12 +1,7 @@
-use borrow.Author.Rules.{rules}
 use mathlib.Core.Path.{◌≡◌, refl, sym, ◌∙◌, ap}
 use mathlib.Core.Bool.{cond}
-use mathlib.Core.List.{List, [], ◌∷◌}
 use mathlib.Core.Option.{Option, none, some}
 use Prim.Native.Nat.{ℕ}
-use types.Run.{OneOf, miss}
-use denote.Enum.Declared.{tag_of}
-use Rattle.rules.specs.contracts.Change.{the_type}
 use Rattle.rules.proofs.CellsSound.{sound_length}
 use Rattle.rules.specs.Facts.{Facts, known}
 use Rattle.rules.specs.Judge.{told_refusal}
@@ -16,21 +11,18 @@ use Rattle.rules.specs.declared.Change.TheVariants as Change'
 use Rattle.table.proofs.judge.telling.Goals as goal
 
 -- A 48 is judged by its port's list, any other change by its port being there.
-abbrev others : List ℕ
-others = 0 ∷ 1 ∷ 2 ∷ 3 ∷ 4 ∷ []
-
-other-told : (change : Change) → OneOf others (tag_of the_type change) → (x : Option Facts) → cond (known x) 0 10 ≡ told_refusal change x
-other-told Change'.Unchanged t none = refl
-other-told Change'.Unchanged t (some f) = refl
-other-told (Change'.Formatted mode format) t none = refl
-other-told (Change'.Formatted mode format) t (some f) = refl
-other-told (Change'.Answered setup) t none = refl
-other-told (Change'.Answered setup) t (some f) = refl
-other-told (Change'.Asked setup experiment) t none = refl
-other-told (Change'.Asked setup experiment) t (some f) = refl
-other-told (Change'.Listed experiment) t none = refl
-other-told (Change'.Listed experiment) t (some f) = refl
-other-told (Change'.Combined pointers) t x = absurd (miss others 5 tt t)
+other_told : (change : Change) → ((pointers : ℕ) → change ≡ Change'.Combined pointers → ⊥) → (x : Option Facts) → cond (known x) 0 10 ≡ told_refusal change x
+other_told Change'.Unchanged t none = refl
+other_told Change'.Unchanged t (some f) = refl
+other_told (Change'.Formatted mode format) t none = refl
+other_told (Change'.Formatted mode format) t (some f) = refl
+other_told (Change'.Answered setup) t none = refl
+other_told (Change'.Answered setup) t (some f) = refl
+other_told (Change'.Asked setup experiment) t none = refl
+other_told (Change'.Asked setup experiment) t (some f) = refl
+other_told (Change'.Listed experiment) t none = refl
+other_told (Change'.Listed experiment) t (some f) = refl
+other_told (Change'.Combined pointers) t x = absurd (t pointers refl)
 
 pub absent_refusal-requires : goal.absent_refusal-requires
 absent_refusal-requires c = sound_length c.args.table.now c.requires
@@ -39,4 +31,4 @@ pub returns-in-Combined : goal.returns-in-Combined
 returns-in-Combined c = let a = c.args in c.take_over.ensures ∙ sym (ap (λ (x : Change). told_refusal x (view_of_cells a.table.now a.port)) c.in-Combined.is)
 
 pub returns-in_default : goal.returns-in_default
-returns-in_default c = let a = c.args in c.absent_refusal.ensures ∙ other-told a.change c.in-Combined.keys2 (view_of_cells a.table.now a.port)
+returns-in_default c = let a = c.args in c.absent_refusal.ensures ∙ other_told a.change c.in_default.not-Combined (view_of_cells a.table.now a.port)

@@ -2,7 +2,6 @@ use native.Mathlib.Omega.{arith}
 use mathlib.Core.Bool.{Bool, cond}
 use mathlib.Core.Logic.{inl, inr}
 use mathlib.Core.Path.{sym, ◌∙◌, ap}
-use borrow.Author.Rules.{rules}
 use Rattle.rules.specs.Judge.{refusal_unless_virtual}
 use Rattle.rules.specs.Layout.{wiring_index, first_index, second_index}
 use Rattle.soundness.proofs.Places.{found, nowhere}

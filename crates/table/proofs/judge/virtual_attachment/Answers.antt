@@ -1,5 +1,4 @@
 use mathlib.Core.Path.{sym, ◌∙◌}
-use borrow.Author.Rules.{rules}
 use Rattle.rules.specs.Cells.{table_at}
 use Rattle.rules.specs.Judge.{present, pair_test, refusal_if_full}
 use Rattle.rules.specs.Offer.{view_of_cells}

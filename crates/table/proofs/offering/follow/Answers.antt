@@ -1,4 +1,3 @@
-use borrow.Author.Rules.{rules}
 use Rattle.rules.specs.OpenBytes.{opens_in}
 use Rattle.table.proofs.Offers.{tell_ready, change_ready, attach_ready, virtual_ready, detach_ready, changed_as, unchanged}
 use Rattle.table.proofs.Steps.{empty_is}
@@ -68,4 +67,10 @@ pub returns-in_default : goal.returns-in_default
 returns-in_default c =
     let a = c.args in
     let cells = c.args.table.now in
-    unchanged cells (opens_in a.e a.message.now) a.e c.requires.0 c.in-ToPort.keys6
+    unchanged cells (opens_in a.e a.message.now) a.e c.requires.0 (record {
+      not_told = c.in_default.not-ToPort;
+      not_attached = c.in_default.not-Attach;
+      not_joined = c.in_default.not-AttachVirtual;
+      not_detached = c.in_default.not-Detach;
+      not_emptied = c.in_default.not-Empty;
+    })

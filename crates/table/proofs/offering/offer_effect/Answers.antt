@@ -1,5 +1,4 @@
 use mathlib.Core.Path.{sym, ◌∙◌, ap}
-use borrow.Author.Rules.{rules}
 use Rattle.rules.specs.Answer.{accepted, outcome}
 use Rattle.rules.specs.Effect.{event}
 use Rattle.rules.specs.Offer.{applied_to}

@@ -1,7 +1,6 @@
-use Prim.Native.Nat.{ℕ, ◌-◌}
+use Prim.Native.Nat.{ℕ}
 use native.Mathlib.Omega.{arith}
 use mathlib.Core.Path.{sym, ◌∙◌, ap}
-use borrow.Author.Rules.{rules}
 use Rattle.protocol.specs.Answer.{answer_of}
 use Rattle.rules.specs.Answer.{outcome}
 use Rattle.table.proofs.Offers.{offered_message, offered_unread, cells_by, fits_by}
@@ -11,16 +10,14 @@ use Rattle.table.proofs.offering.offer_sound.Goals as goal
 pub offer_effect-requires : goal.offer_effect-requires
 offer_effect-requires c =
     let p = c.requires in
-    let shared-slice-known = c.shared_slice_known-1 in
     let a = c.args in
     let cells = c.args.table.now in
-    (p, fits_by a.message.now a.way a.experiment _ c.effect_of.result (all_bytes_lem a.message.now (λ (k : ℕ). omega (arith, c.type_inv.message k))) (omega (arith, c.well-formed)) (sym c.read.ensures ∙ ap answer_of c.in-Accepted.is) c.effect_of.ensures)
+    (p, fits_by a.message.now a.way a.experiment _ c.effect_of.result (all_bytes_lem a.message.now (λ (k : ℕ). omega (arith, c.type_inv.message k))) (omega (arith)) (sym c.read.ensures ∙ ap answer_of c.in-Accepted.is) c.effect_of.ensures)
 
 pub returns-in-Accepted : goal.returns-in-Accepted
 returns-in-Accepted c =
     let p = c.requires in
     let read = c.read in
-    let m = c.m-1 in
     let effect_of = c.effect_of in
     let a = c.args in
     let cells = c.args.table.now in
