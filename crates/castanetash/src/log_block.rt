@@ -33,8 +33,7 @@ fn few_totals(table: &[u32]) -> u64
 
 // Works through a block of a log: as many whole records as the text has room for, a line each. The
 // table follows the messages, and two cells have the totals.
-#[unsafe(no_mangle)]
-pub extern "C" fn castanetash_read_block(
+pub fn castanetash_read_block(
     table: &mut [u32],
     totals: &mut [u64],
     log: &[u8],

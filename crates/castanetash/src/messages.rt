@@ -41,8 +41,7 @@ fn put_reading(row: &mut [u64], reading: Reading, size: u64, count: u64) -> u64
 
 // Reads one message (`way`: 0 down, else up) into a row of 16 cells: form (from 1), where the open
 // bytes start, how many they are, how many values, the values from left to right.
-#[unsafe(no_mangle)]
-pub extern "C" fn castanetash_read(message: &[u8], way: u8, row: &mut [u64]) -> u64
+pub fn castanetash_read(message: &[u8], way: u8, row: &mut [u64]) -> u64
     ensures { (result ≡ row_number row.old (read_answer (way_of way) message.now)) × (row.new ≡ row_after row.old (read_answer (way_of way) message.now)) }
 {
     let w = way_of(way);
@@ -63,8 +62,7 @@ fn number_of(written: Written) -> u64
 
 // Writes the message of a row, as `castanetash_read` fills it, with its open bytes into the front of
 // `out`.
-#[unsafe(no_mangle)]
-pub extern "C" fn castanetash_write(row: &[u64], way: u8, open: &[u8], out: &mut [u8]) -> u64
+pub fn castanetash_write(row: &[u64], way: u8, open: &[u8], out: &mut [u8]) -> u64
     ensures { (result ≡ call_number (written_count (answered (limited (length out.old) (row_encoded (way_of way) row.now «open».now))))) × (out.new ≡ lent_after (limited (length out.old) (row_encoded (way_of way) row.now «open».now)) out.old) }
 {
     number_of(write_row(row, way_of(way), open, out))

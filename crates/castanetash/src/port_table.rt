@@ -20,21 +20,14 @@ use table::{empty, offer};
 use table_cells::{outcome_number, put_format, put_port};
 
 // Makes an empty table of a table's number of cells.
-#[unsafe(no_mangle)]
-pub extern "C" fn castanetash_empty(table: &mut [u32]) -> u64
+pub fn castanetash_empty(table: &mut [u32]) -> u64
     ensures { (result ≡ plain_number (empty_answer table.old)) × (table.new ≡ emptied table.old) }
 {
     outcome_number(empty(table))
 }
 
 // Offers a message with its experiment number to a table.
-#[unsafe(no_mangle)]
-pub extern "C" fn castanetash_offer(
-    table: &mut [u32],
-    message: &[u8],
-    way: u8,
-    experiment: u16,
-) -> u64
+pub fn castanetash_offer(table: &mut [u32], message: &[u8], way: u8, experiment: u16) -> u64
     ensures { (result ≡ plain_number (outcome (offer_by_cells table.old (record { way = way_of way; bytes = message.now; experiment = experiment })))) × (table.new ≡ cells_after table.old (record { way = way_of way; bytes = message.now; experiment = experiment })) }
 {
     outcome_number(offer(table, message, way_of(way), experiment))
@@ -51,24 +44,21 @@ fn ports_number(ports: Ports) -> u64
 }
 
 // The ports present, in ascending order, a byte each.
-#[unsafe(no_mangle)]
-pub extern "C" fn castanetash_ports(table: &[u32], list: &mut [u8]) -> u64
+pub fn castanetash_ports(table: &[u32], list: &mut [u8]) -> u64
     ensures { (result ≡ row_number list.old (ports_by_cells table.now)) × (list.new ≡ row_after list.old (ports_by_cells table.now)) }
 {
     ports_number(ports(table, list))
 }
 
 // What the table says of a port, in 49 cells.
-#[unsafe(no_mangle)]
-pub extern "C" fn castanetash_port(table: &[u32], number: u8, row: &mut [u64]) -> u64
+pub fn castanetash_port(table: &[u32], number: u8, row: &mut [u64]) -> u64
     ensures { (result ≡ row_number row.old (mapped port_row (port_by_cells table.now number))) × (row.new ≡ row_after row.old (mapped port_row (port_by_cells table.now number))) }
 {
     put_port(row, table, number)
 }
 
 // What the table says of the format of a port's mode, in 5 cells.
-#[unsafe(no_mangle)]
-pub extern "C" fn castanetash_format(table: &[u32], number: u8, mode: u8, row: &mut [u64]) -> u64
+pub fn castanetash_format(table: &[u32], number: u8, mode: u8, row: &mut [u64]) -> u64
     ensures { (result ≡ row_number row.old (mapped format_row (format_by_cells table.now number mode))) × (row.new ≡ row_after row.old (mapped format_row (format_by_cells table.now number mode))) }
 {
     put_format(row, format(table, number, mode))

@@ -7,10 +7,10 @@ ghost use Rattle.log_rules.specs.Record.{record_size};
 ghost use Rattle.table.specs.BlockAnswer.{run_of};
 ghost use Rattle.logread.specs.Reading.{BlockDone, RecordsDone, Printable, Stepped, TakenIn, ending_of, fetched_fits};
 
-use crate::words::{fail, tell};
-use libc::STDOUT_FILENO;
+use crate::words::{Streams, fail, tell};
 use log_lines::record::RECORD_SIZE;
 use log_lines::totals::put_ending;
+use std::io::{Read, Write};
 use table::block::Block;
 use table::read_block;
 
@@ -46,18 +46,27 @@ enum Fetched {
 }
 
 // Writes text to standard output; it is lines of records, or the ending of a log.
-fn print(text: &[u8]) -> bool
+fn print<O: Write, E: Write>(streams: &mut Streams<O, E>, text: &[u8]) -> bool
     requires { Printable text.now }
 {
-    let is_written = io::write_all(STDOUT_FILENO, text);
-    if !is_written {
-        fail(b"standard output");
+    match streams.output.write_all(text) {
+        Ok(()) => true,
+        Err(error) => {
+            fail(&mut streams.errors, b"standard output", &error);
+            false
+        }
     }
-    is_written
 }
 
 // Works through a block of whole records of a part of the input, and prints their lines.
-fn print_block(table: &mut [u32], lines: u64, refused: u64, input: &[u8], out: &mut [u8]) -> Taken
+fn print_block<O: Write, E: Write>(
+    table: &mut [u32],
+    lines: u64,
+    refused: u64,
+    input: &[u8],
+    out: &mut [u8],
+    streams: &mut Streams<O, E>,
+) -> Taken
     requires { sound table.old ≡ true }
     ensures { BlockDone (run_of table.old lines refused input.now) out.old out.new table.new result }
 {
@@ -71,7 +80,7 @@ fn print_block(table: &mut [u32], lines: u64, refused: u64, input: &[u8], out: &
             taken,
             lines,
             refused,
-            has_failed: !print(&out[..written]),
+            has_failed: !print(streams, &out[..written]),
         },
         Block::Refused {
             number: _,
@@ -86,7 +95,14 @@ fn print_block(table: &mut [u32], lines: u64, refused: u64, input: &[u8], out: &
 }
 
 // The same with all whole records that are there, which may take more than one block.
-fn print_records(table: &mut [u32], lines: u64, refused: u64, input: &[u8], out: &mut [u8]) -> Taken
+fn print_records<O: Write, E: Write>(
+    table: &mut [u32],
+    lines: u64,
+    refused: u64,
+    input: &[u8],
+    out: &mut [u8],
+    streams: &mut Streams<O, E>,
+) -> Taken
     requires { (sound table.old ≡ true) × (line_room ≤ length out.old) }
     ensures { RecordsDone (run_of table.old lines refused input.now) table.new result }
 {
@@ -94,7 +110,7 @@ fn print_records(table: &mut [u32], lines: u64, refused: u64, input: &[u8], out:
     let mut count = lines;
     let mut bad = refused;
     while RECORD_SIZE <= input.len() - done {
-        let block = print_block(table, count, bad, &input[done..], out);
+        let block = print_block(table, count, bad, &input[done..], out, streams);
         done += block.taken;
         count = block.lines;
         bad = block.refused;
@@ -107,7 +123,7 @@ fn print_records(table: &mut [u32], lines: u64, refused: u64, input: &[u8], out:
             };
         }
         if block.taken == 0 {
-            tell(b"too many records", b"");
+            tell(&mut streams.errors, b"too many records", b"");
             return Taken {
                 taken: done,
                 lines: count,
@@ -137,28 +153,39 @@ fn keep(input: &mut [u8], from: usize, to: usize)
 }
 
 // Reads once, behind the bytes that are held.
-fn fetch(input: &mut [u8], held: usize, fd: i32, name: &[u8]) -> Fetched
+fn fetch<R: Read, E: Write>(
+    input: &mut [u8],
+    held: usize,
+    source: &mut R,
+    name: &[u8],
+    errors: &mut E,
+) -> Fetched
     requires { held ≤ length input.old }
     ensures { (take held input.new ≡ take held input.old) × fetched_fits result held (length input.old) }
 {
-    let got = libc::read(fd, &mut input[held..]);
-    if got < 0 {
-        fail(name);
-        return Fetched::Failed;
+    match source.read(&mut input[held..]) {
+        Ok(0) => Fetched::End,
+        Ok(count) => Fetched::Bytes { count },
+        Err(error) => {
+            fail(errors, name, &error);
+            Fetched::Failed
+        }
     }
-    let count = io::count(got, &input[held..]);
-    if count == 0 {
-        return Fetched::End;
-    }
-    Fetched::Bytes { count }
 }
 
 // Prints the lines of all whole records before an index, and keeps what is left of a record.
-fn take_in(table: &mut [u32], input: &mut [u8], out: &mut [u8], p: Progress, end: usize) -> Progress
+fn take_in<O: Write, E: Write>(
+    table: &mut [u32],
+    input: &mut [u8],
+    out: &mut [u8],
+    p: Progress,
+    end: usize,
+    streams: &mut Streams<O, E>,
+) -> Progress
     requires { (sound table.old ≡ true) × (line_room ≤ length out.old) × (end ≤ length input.old) }
     ensures { TakenIn (run_of table.old p.lines p.refused (take end input.old)) table.new input.new result }
 {
-    let done = print_records(table, p.lines, p.refused, &input[..end], out);
+    let done = print_records(table, p.lines, p.refused, &input[..end], out, streams);
     keep(input, done.taken, end);
     Progress {
         held: end - done.taken,
@@ -170,19 +197,20 @@ fn take_in(table: &mut [u32], input: &mut [u8], out: &mut [u8], p: Progress, end
 }
 
 // One piece of the input: reads once, and prints the lines of all records that are whole now.
-fn step(
+fn step<R: Read, O: Write, E: Write>(
     table: &mut [u32],
     input: &mut [u8],
     out: &mut [u8],
     p: Progress,
-    fd: i32,
+    source: &mut R,
     name: &[u8],
+    streams: &mut Streams<O, E>,
 ) -> Progress
     requires { (sound table.old ≡ true) × (line_room ≤ length out.old) × (p.held ≤ length input.old) }
     ensures { Stepped (run_of table.old p.lines p.refused (take p.held input.old)) table.new input.new result }
 {
-    match fetch(input, p.held, fd, name) {
-        Fetched::Bytes { count } => take_in(table, input, out, p, p.held + count),
+    match fetch(input, p.held, source, name, &mut streams.errors) {
+        Fetched::Bytes { count } => take_in(table, input, out, p, p.held + count, streams),
         Fetched::End => Progress {
             held: p.held,
             lines: p.lines,
@@ -209,7 +237,14 @@ fn put_end(out: &mut [u8], p: Progress) -> usize
 
 // The whole input. A loop has to end, and nothing says that an input does: it counts its turns down
 // from a number that no run uses up.
-pub(crate) fn print_log(table: &mut [u32], input: &mut [u8], out: &mut [u8], fd: i32, name: &[u8])
+pub(crate) fn print_log<R: Read, O: Write, E: Write>(
+    table: &mut [u32],
+    input: &mut [u8],
+    out: &mut [u8],
+    source: &mut R,
+    name: &[u8],
+    streams: &mut Streams<O, E>,
+)
     requires { (table.old ≡ empty_cells) × (line_room ≤ length out.old) × (record_size 128 ≤ length input.old) }
 {
     let mut p = Progress {
@@ -221,11 +256,11 @@ pub(crate) fn print_log(table: &mut [u32], input: &mut [u8], out: &mut [u8], fd:
     };
     let mut turns = u64::MAX;
     while turns > 0 && p.is_open {
-        p = step(table, input, out, p, fd, name);
+        p = step(table, input, out, p, source, name, streams);
         turns -= 1;
     }
     if !p.has_failed {
         let k = put_end(out, p);
-        print(&out[..k]);
+        print(streams, &out[..k]);
     }
 }

@@ -1,24 +1,57 @@
 // What the program says besides the lines of a log.
-use libc::{STDERR_FILENO, STDOUT_FILENO};
+ghost use Rattle.std.specs.Prelude.{◌≤◌, length};
 
-// Tells on standard error what failed, and why, as the system has it.
-pub(crate) fn fail(what: &[u8]) {
-    io::write_all(STDERR_FILENO, b"logread: ");
-    os::fail(what);
+use std::io::{Error, Write};
+
+// Where the program prints, and where it tells what failed.
+#[derive(Drop)]
+pub(crate) struct Streams<O, E> {
+    pub(crate) output: O,
+    pub(crate) errors: E,
+}
+
+// The words of an error: of one of the system's, its text without its number.
+fn words_of(text: &str) -> &str {
+    match text.rsplit_once(" (os error ") {
+        Some((words, _)) => words,
+        None => text,
+    }
+}
+
+// Puts the text of an error at the start of `text`, as far as there is room, and answers how long it is.
+fn put_error(error: &Error, text: &mut [u8]) -> usize
+    ensures { result ≤ length text.new }
+{
+    let mut rest = &mut text[..];
+    let _ = write!(rest, "{error}");
+    let left = rest.len();
+    text.len().saturating_sub(left)
+}
+
+// Tells on standard error what failed, and why, as the system has it. Where it can't be told, nothing
+// is left to do.
+pub(crate) fn fail<E: Write>(errors: &mut E, what: &[u8], error: &Error) {
+    let mut buffer = [0u8; 320];
+    let size = put_error(error, &mut buffer);
+    let text = str::from_utf8(&buffer[..size]).unwrap_or("");
+    let _ = errors.write_all(b"logread: ");
+    let _ = errors.write_all(what);
+    let _ = errors.write_all(b": ");
+    let _ = errors.write_all(words_of(text).as_bytes());
+    let _ = errors.write_all(b"\n");
 }
 
 // Tells on standard error what is wrong, and with what.
-pub(crate) fn tell(what: &[u8], with: &[u8]) {
-    io::write_all(STDERR_FILENO, b"logread: ");
-    io::write_all(STDERR_FILENO, what);
-    io::write_all(STDERR_FILENO, with);
-    io::write_all(STDERR_FILENO, b"\n");
+pub(crate) fn tell<E: Write>(errors: &mut E, what: &[u8], with: &[u8]) {
+    let _ = errors.write_all(b"logread: ");
+    let _ = errors.write_all(what);
+    let _ = errors.write_all(with);
+    let _ = errors.write_all(b"\n");
 }
 
 // How the program is used, on standard output.
-pub(crate) fn print_usage() {
-    let is_written = io::write_all(
-        STDOUT_FILENO,
+pub(crate) fn print_usage<O: Write, E: Write>(streams: &mut Streams<O, E>) {
+    let written = streams.output.write_all(
         b"usage: logread [FILE]
 
 Reads the log of one hub, from FILE or else from standard input, and prints a
@@ -46,7 +79,7 @@ If a read or a write fails, it is told on standard error, and there are no
 totals: a log without totals is incomplete.
 ",
     );
-    if !is_written {
-        fail(b"standard output");
+    if let Err(error) = written {
+        fail(&mut streams.errors, b"standard output", &error);
     }
 }

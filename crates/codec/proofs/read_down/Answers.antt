@@ -21,32 +21,32 @@ returns-in-3 c = c.hub_alerts_down.ensures ∙ sym (typed Down _ 3 c.in-3.is)
 pub returns-in-16 : goal.returns-in-16
 unfolding types
 returns-in-16 c =
-    let c1 = c in c.go_into_boot_mode.ensures ∙ sym (typed Down _ 16 c.in-16.is ∙ long_enough _ _ c1.requires)
+    c.go_into_boot_mode.ensures ∙ sym (typed Down _ 16 c.in-16.is ∙ long_enough _ _ c.requires)
 
 pub returns-in-17 : goal.returns-in-17
 unfolding types
 returns-in-17 c =
-    let c1 = c in c.lock_memory.ensures ∙ sym (typed Down _ 17 c.in-17.is ∙ long_enough _ _ c1.requires)
+    c.lock_memory.ensures ∙ sym (typed Down _ 17 c.in-17.is ∙ long_enough _ _ c.requires)
 
 pub returns-in-18 : goal.returns-in-18
 unfolding types
 returns-in-18 c =
-    let c1 = c in c.lock_status_request.ensures ∙ sym (typed Down _ 18 c.in-18.is ∙ long_enough _ _ c1.requires)
+    c.lock_status_request.ensures ∙ sym (typed Down _ 18 c.in-18.is ∙ long_enough _ _ c.requires)
 
 pub returns-in-33 : goal.returns-in-33
 unfolding types
 returns-in-33 c =
-    let c1 = c in c.port_information_request.ensures ∙ sym (typed Down _ 33 c.in-33.is ∙ long_enough _ _ c1.requires)
+    c.port_information_request.ensures ∙ sym (typed Down _ 33 c.in-33.is ∙ long_enough _ _ c.requires)
 
 pub returns-in-34 : goal.returns-in-34
 unfolding types
 returns-in-34 c =
-    let c1 = c in c.mode_information_request.ensures ∙ sym (typed Down _ 34 c.in-34.is ∙ long_enough _ _ c1.requires)
+    c.mode_information_request.ensures ∙ sym (typed Down _ 34 c.in-34.is ∙ long_enough _ _ c.requires)
 
 pub returns-in-65 : goal.returns-in-65
 unfolding types
 returns-in-65 c =
-    let c1 = c in c.input_format_setup.ensures ∙ sym (typed Down _ 65 c.in-65.is ∙ long_enough _ _ c1.requires)
+    c.input_format_setup.ensures ∙ sym (typed Down _ 65 c.in-65.is ∙ long_enough _ _ c.requires)
 
 pub returns-in-66 : goal.returns-in-66
 unfolding types

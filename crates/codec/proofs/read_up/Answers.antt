@@ -25,12 +25,12 @@ returns-in-4 c = c.hub_attached_io.ensures ∙ sym (typed Up _ 4 c.in-4.is)
 pub returns-in-5 : goal.returns-in-5
 unfolding types
 returns-in-5 c =
-    let c1 = c in c.generic_error.ensures ∙ sym (typed Up _ 5 c.in-5.is ∙ long_enough _ _ c1.requires)
+    c.generic_error.ensures ∙ sym (typed Up _ 5 c.in-5.is ∙ long_enough _ _ c.requires)
 
 pub returns-in-19 : goal.returns-in-19
 unfolding types
 returns-in-19 c =
-    let c1 = c in c.lock_status.ensures ∙ sym (typed Up _ 19 c.in-19.is ∙ long_enough _ _ c1.requires)
+    c.lock_status.ensures ∙ sym (typed Up _ 19 c.in-19.is ∙ long_enough _ _ c.requires)
 
 pub returns-in-67 : goal.returns-in-67
 unfolding types
@@ -43,27 +43,27 @@ returns-in-68 c = c.port_mode_information.ensures ∙ sym (typed Up _ 68 c.in-68
 pub returns-in-69 : goal.returns-in-69
 unfolding types
 returns-in-69 c =
-    let c1 = c in c.port_value.ensures ∙ sym (typed Up _ 69 c.in-69.is ∙ long_enough _ _ c1.requires)
+    c.port_value.ensures ∙ sym (typed Up _ 69 c.in-69.is ∙ long_enough _ _ c.requires)
 
 pub returns-in-70 : goal.returns-in-70
 unfolding types
 returns-in-70 c =
-    let c1 = c in c.port_value_combined.ensures ∙ sym (typed Up _ 70 c.in-70.is ∙ long_enough _ _ c1.requires)
+    c.port_value_combined.ensures ∙ sym (typed Up _ 70 c.in-70.is ∙ long_enough _ _ c.requires)
 
 pub returns-in-71 : goal.returns-in-71
 unfolding types
 returns-in-71 c =
-    let c1 = c in c.input_format.ensures ∙ sym (typed Up _ 71 c.in-71.is ∙ long_enough _ _ c1.requires)
+    c.input_format.ensures ∙ sym (typed Up _ 71 c.in-71.is ∙ long_enough _ _ c.requires)
 
 pub returns-in-72 : goal.returns-in-72
 unfolding types
 returns-in-72 c =
-    let c1 = c in c.input_format_combined.ensures ∙ sym (typed Up _ 72 c.in-72.is ∙ long_enough _ _ c1.requires)
+    c.input_format_combined.ensures ∙ sym (typed Up _ 72 c.in-72.is ∙ long_enough _ _ c.requires)
 
 pub returns-in-130 : goal.returns-in-130
 unfolding types
 returns-in-130 c =
-    let c1 = c in c.output_feedback.ensures ∙ sym (typed Up _ 130 c.in-130.is ∙ long_enough _ _ c1.requires)
+    c.output_feedback.ensures ∙ sym (typed Up _ 130 c.in-130.is ∙ long_enough _ _ c.requires)
 
 pub returns-in_default : goal.returns-in_default
 unfolding decode_way types

@@ -11,14 +11,14 @@ returns-then-s-ne7 c = simp (c.wrong_size.ensures, ne_eqb _ _ c.if-s-ne7.true)
 pub returns-then-mode-gt15 : goal.returns-then-mode-gt15
 unfolding decode_form layout little_endian
 returns-then-mode-gt15 c =
-    let c1 = c in simp (c.outside.ensures, lt-leb _ _ c.if-mode-gt15.true, eq-eqb _ _ c1.if-s-ne7.false)
+    simp (c.outside.ensures, lt-leb _ _ c.if-mode-gt15.true, eq-eqb _ _ c.if-s-ne7.false)
 
 pub returns-then-bias-gt100 : goal.returns-then-bias-gt100
 unfolding decode_form layout little_endian
 returns-then-bias-gt100 c =
-    let c1 = c in let c2 = c in simp (c.outside-then-bias-gt100.ensures, lt-leb _ 100 c.if-bias-gt100.true, le-leb _ _ c1.if-mode-gt15.false, eq-eqb _ _ c2.if-s-ne7.false)
+    simp (c.outside-then-bias-gt100.ensures, lt-leb _ 100 c.if-bias-gt100.true, le-leb _ _ c.if-mode-gt15.false, eq-eqb _ _ c.if-s-ne7.false)
 
 pub returns : goal.returns
 unfolding decode_form layout little_endian
 returns c =
-    let c1 = c in let c2 = c in let c3 = c in simp (le-leb _ 100 c.if-bias-gt100.false, le-leb _ _ c1.if-mode-gt15.false, eq-eqb _ _ c2.if-s-ne7.false, c3.requires)
+    simp (le-leb _ 100 c.if-bias-gt100.false, le-leb _ _ c.if-mode-gt15.false, eq-eqb _ _ c.if-s-ne7.false, c.requires)

@@ -11,9 +11,9 @@ returns-then-s-ne8 c = simp (c.wrong_size.ensures, ne_eqb _ _ c.if-s-ne8.true)
 pub returns-then-mode-gt15 : goal.returns-then-mode-gt15
 unfolding decode_form layout little_endian
 returns-then-mode-gt15 c =
-    let c1 = c in simp (c.outside.ensures, lt-leb _ _ c.if-mode-gt15.true, eq-eqb _ _ c1.if-s-ne8.false)
+    simp (c.outside.ensures, lt-leb _ _ c.if-mode-gt15.true, eq-eqb _ _ c.if-s-ne8.false)
 
 pub returns : goal.returns
 unfolding decode_form layout little_endian
 returns c =
-    let c1 = c in let c2 = c in let c3 = c in simp (c.u16_at.ensures, le-leb _ _ c1.if-mode-gt15.false, eq-eqb _ _ c2.if-s-ne8.false, c3.requires)
+    simp (c.u16_at.ensures, le-leb _ _ c.if-mode-gt15.false, eq-eqb _ _ c.if-s-ne8.false, c.requires)

@@ -12,19 +12,19 @@ returns-then-s-ne14 c = simp (c.wrong_size.ensures, ne_eqb _ _ c.if-s-ne14.true)
 pub returns-then-mode-gt15 : goal.returns-then-mode-gt15
 unfolding decode_form layout little_endian
 returns-then-mode-gt15 c =
-    let c1 = c in simp (c.outside.ensures, lt-leb _ _ c.if-mode-gt15.true, eq-eqb _ _ c1.if-s-ne14.false)
+    simp (c.outside.ensures, lt-leb _ _ c.if-mode-gt15.true, eq-eqb _ _ c.if-s-ne14.false)
 
 pub returns-then-not-finite_at : goal.returns-then-not-finite_at
 unfolding decode_form layout little_endian
 returns-then-not-finite_at c =
-    let c1 = c in let c2 = c in let c3 = c in simp (c.outside-then-not-finite_at.ensures, sym c1.finite_at.ensures ∙ c.if-not-finite_at.true, le-leb _ _ c2.if-mode-gt15.false, eq-eqb _ _ c3.if-s-ne14.false)
+    simp (c.outside-then-not-finite_at.ensures, sym c.finite_at.ensures ∙ c.if-not-finite_at.true, le-leb _ _ c.if-mode-gt15.false, eq-eqb _ _ c.if-s-ne14.false)
 
 pub returns-then-not-finite_at-2 : goal.returns-then-not-finite_at-2
 unfolding decode_form layout little_endian
 returns-then-not-finite_at-2 c =
-    let c1 = c in let c2 = c in let c3 = c in let c4 = c in let c5 = c in simp (c.outside-then-not-finite_at-2.ensures, sym c1.finite_at-2.ensures ∙ c.if-not-finite_at-2.true, sym c3.finite_at.ensures ∙ c2.if-not-finite_at.false, le-leb _ _ c4.if-mode-gt15.false, eq-eqb _ _ c5.if-s-ne14.false)
+    simp (c.outside-then-not-finite_at-2.ensures, sym c.finite_at-2.ensures ∙ c.if-not-finite_at-2.true, sym c.finite_at.ensures ∙ c.if-not-finite_at.false, le-leb _ _ c.if-mode-gt15.false, eq-eqb _ _ c.if-s-ne14.false)
 
 pub returns : goal.returns
 unfolding decode_form layout little_endian
 returns c =
-    let c1 = c in let c2 = c in let c3 = c in let c4 = c in let c5 = c in let c6 = c in simp (c.f32_at-2.ensures, c.f32_at.ensures, sym c2.finite_at-2.ensures ∙ c1.if-not-finite_at-2.false, sym c4.finite_at.ensures ∙ c3.if-not-finite_at.false, le-leb _ _ c5.if-mode-gt15.false, eq-eqb _ _ c6.if-s-ne14.false)
+    simp (c.f32_at-2.ensures, c.f32_at.ensures, sym c.finite_at-2.ensures ∙ c.if-not-finite_at-2.false, sym c.finite_at.ensures ∙ c.if-not-finite_at.false, le-leb _ _ c.if-mode-gt15.false, eq-eqb _ _ c.if-s-ne14.false)

@@ -11,14 +11,14 @@ returns-then-s-lt7 c = simp (c.wrong_size.ensures, lt-leb _ _ c.if-s-lt7.true)
 pub returns-then-most-s : goal.returns-then-most-s
 unfolding decode_form layout little_endian
 returns-then-most-s c =
-    let c1 = c in let c2 = c in simp (c.wrong_size-then-most-s.ensures, lt-leb _ _ c.if-most-s.true, le-leb _ _ c1.if-s-lt7.false, ← c2.requires)
+    simp (c.wrong_size-then-most-s.ensures, lt-leb _ _ c.if-most-s.true, le-leb _ _ c.if-s-lt7.false, ← c.requires)
 
 pub returns-then-mode-gt15 : goal.returns-then-mode-gt15
 unfolding decode_form layout little_endian
 returns-then-mode-gt15 c =
-    let c1 = c in let c2 = c in let c3 = c in simp (c.outside.ensures, lt-leb _ _ c.if-mode-gt15.true, le-leb _ _ c1.if-most-s.false, le-leb _ _ c2.if-s-lt7.false, ← c3.requires)
+    simp (c.outside.ensures, lt-leb _ _ c.if-mode-gt15.true, le-leb _ _ c.if-most-s.false, le-leb _ _ c.if-s-lt7.false, ← c.requires)
 
 pub returns : goal.returns
 unfolding decode_form layout little_endian
 returns c =
-    let c1 = c in let c2 = c in let c3 = c in let c4 = c in simp (le-leb _ _ c1.if-mode-gt15.false, le-leb _ _ c2.if-most-s.false, le-leb _ _ c3.if-s-lt7.false, ← c4.requires)
+    simp (le-leb _ _ c.if-mode-gt15.false, le-leb _ _ c.if-most-s.false, le-leb _ _ c.if-s-lt7.false, ← c.requires)

@@ -22,47 +22,47 @@ mode_text-requires-in-4 c = rw c.in-4.is
 pub returns-in-0 : goal.returns-in-0
 unfolding port_mode_information decode_type
 returns-in-0 c =
-    let c1 = c in simp (c.mode_text.ensures, le-ltb _ _ c1.if-s-lt6.false, c.in-0.is)
+    simp (c.mode_text.ensures, le-ltb _ _ c.if-s-lt6.false, c.in-0.is)
 
 pub returns-in-4 : goal.returns-in-4
 unfolding port_mode_information decode_type
 returns-in-4 c =
-    let c1 = c in simp (c.mode_text-in-4.ensures, le-ltb _ _ c1.if-s-lt6.false, c.in-4.is)
+    simp (c.mode_text-in-4.ensures, le-ltb _ _ c.if-s-lt6.false, c.in-4.is)
 
 pub returns-in-1 : goal.returns-in-1
 unfolding port_mode_information decode_type
 returns-in-1 c =
-    let c1 = c in simp (c.mode_range.ensures, le-ltb _ _ c1.if-s-lt6.false, c.in-1.is)
+    simp (c.mode_range.ensures, le-ltb _ _ c.if-s-lt6.false, c.in-1.is)
 
 pub returns-in-2 : goal.returns-in-2
 unfolding port_mode_information decode_type
 returns-in-2 c =
-    let c1 = c in simp (c.mode_range-in-2.ensures, le-ltb _ _ c1.if-s-lt6.false, c.in-2.is)
+    simp (c.mode_range-in-2.ensures, le-ltb _ _ c.if-s-lt6.false, c.in-2.is)
 
 pub returns-in-3 : goal.returns-in-3
 unfolding port_mode_information decode_type
 returns-in-3 c =
-    let c1 = c in simp (c.mode_range-in-3.ensures, le-ltb _ _ c1.if-s-lt6.false, c.in-3.is)
+    simp (c.mode_range-in-3.ensures, le-ltb _ _ c.if-s-lt6.false, c.in-3.is)
 
 pub returns-in-5 : goal.returns-in-5
 unfolding port_mode_information decode_type
 returns-in-5 c =
-    let c1 = c in simp (c.mode_mapping.ensures, le-ltb _ _ c1.if-s-lt6.false, c.in-5.is)
+    simp (c.mode_mapping.ensures, le-ltb _ _ c.if-s-lt6.false, c.in-5.is)
 
 pub returns-in-7 : goal.returns-in-7
 unfolding port_mode_information decode_type
 returns-in-7 c =
-    let c1 = c in simp (c.mode_bias.ensures, le-ltb _ _ c1.if-s-lt6.false, c.in-7.is)
+    simp (c.mode_bias.ensures, le-ltb _ _ c.if-s-lt6.false, c.in-7.is)
 
 pub returns-in-8 : goal.returns-in-8
 unfolding port_mode_information decode_type
 returns-in-8 c =
-    let c1 = c in simp (c.mode_capabilities.ensures, le-ltb _ _ c1.if-s-lt6.false, c.in-8.is)
+    simp (c.mode_capabilities.ensures, le-ltb _ _ c.if-s-lt6.false, c.in-8.is)
 
 pub returns-in-128 : goal.returns-in-128
 unfolding port_mode_information decode_type
 returns-in-128 c =
-    let c1 = c in simp (c.value_format.ensures, le-ltb _ _ c1.if-s-lt6.false, c.in-128.is)
+    simp (c.value_format.ensures, le-ltb _ _ c.if-s-lt6.false, c.in-128.is)
 
 pub returns-in_default : goal.returns-in_default
 unfolding port_mode_information decode_type

@@ -13,20 +13,20 @@ returns-then-s-ne10 c = simp (c.wrong_size.ensures, ne_eqb _ _ c.if-s-ne10.true)
 pub returns-then-mode-gt15 : goal.returns-then-mode-gt15
 unfolding decode_form layout little_endian
 returns-then-mode-gt15 c =
-    let c1 = c in simp (c.outside.ensures, lt-leb _ _ c.if-mode-gt15.true, eq-eqb _ _ c1.if-s-ne10.false)
+    simp (c.outside.ensures, lt-leb _ _ c.if-mode-gt15.true, eq-eqb _ _ c.if-s-ne10.false)
 
 pub returns-then-not-between : goal.returns-then-not-between
 unfolding decode_form layout little_endian
 returns-then-not-between c =
-    let c1 = c in let c2 = c in let c3 = c in simp (c.outside-then-not-between.ensures, sym c1.between.ensures ∙ c.if-not-between.true, le-leb _ _ c2.if-mode-gt15.false, eq-eqb _ _ c3.if-s-ne10.false)
+    simp (c.outside-then-not-between.ensures, sym c.between.ensures ∙ c.if-not-between.true, le-leb _ _ c.if-mode-gt15.false, eq-eqb _ _ c.if-s-ne10.false)
 
 pub returns-then-kind-gt3 : goal.returns-then-kind-gt3
 unfolding decode_form layout little_endian
 returns-then-kind-gt3 c =
-    let c1 = c in let c2 = c in let c3 = c in let c4 = c in let seven : answer_of c.outside-then-kind-gt3.result ≡ refused 7 7 = c.outside-then-kind-gt3.ensures in
-    simp (seven, lt-leb _ _ c.if-kind-gt3.true, sym c2.between.ensures ∙ c1.if-not-between.false, le-leb _ _ c3.if-mode-gt15.false, eq-eqb _ _ c4.if-s-ne10.false)
+    let seven : answer_of c.outside-then-kind-gt3.result ≡ refused 7 7 = c.outside-then-kind-gt3.ensures in
+    simp (seven, lt-leb _ _ c.if-kind-gt3.true, sym c.between.ensures ∙ c.if-not-between.false, le-leb _ _ c.if-mode-gt15.false, eq-eqb _ _ c.if-s-ne10.false)
 
 pub returns : goal.returns
 unfolding decode_form layout little_endian
 returns c =
-    let c1 = c in let c2 = c in let c3 = c in let c4 = c in let c5 = c in let c6 = c in simp (le-leb _ _ c1.if-kind-gt3.false, sym c3.between.ensures ∙ c2.if-not-between.false, le-leb _ _ c4.if-mode-gt15.false, eq-eqb _ _ c5.if-s-ne10.false, c6.requires)
+    simp (le-leb _ _ c.if-kind-gt3.false, sym c.between.ensures ∙ c.if-not-between.false, le-leb _ _ c.if-mode-gt15.false, eq-eqb _ _ c.if-s-ne10.false, c.requires)

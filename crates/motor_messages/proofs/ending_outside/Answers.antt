@@ -16,14 +16,14 @@ returns-then-s-at-gt100 c = simp (lt-leb _ _ c.if-s-at-gt100.true)
 pub returns-then-not-is_end_state : goal.returns-then-not-is_end_state
 unfolding ending_outside little_endian
 returns-then-not-is_end_state c =
-    let c1 = c in simp (sym c.is_end_state.ensures ∙ c.if-not-is_end_state.true, le-leb _ _ c1.if-s-at-gt100.false)
+    simp (sym c.is_end_state.ensures ∙ c.if-not-is_end_state.true, le-leb _ _ c.if-s-at-gt100.false)
 
 pub returns-then-s-at-gt3 : goal.returns-then-s-at-gt3
 unfolding ending_outside little_endian
 returns-then-s-at-gt3 c =
-    let c1 = c in let c2 = c in let c3 = c in let c4 = c in simp (third c4.args.at, lt-leb _ _ c.if-s-at-gt3.true, sym c2.is_end_state.ensures ∙ c1.if-not-is_end_state.false, le-leb _ _ c3.if-s-at-gt100.false)
+    simp (third c.args.at, lt-leb _ _ c.if-s-at-gt3.true, sym c.is_end_state.ensures ∙ c.if-not-is_end_state.false, le-leb _ _ c.if-s-at-gt100.false)
 
 pub returns : goal.returns
 unfolding ending_outside little_endian
 returns c =
-    let c1 = c in let c2 = c in let c3 = c in let c4 = c in simp (third c4.args.at, le-leb _ _ c.if-s-at-gt3.false, sym c2.is_end_state.ensures ∙ c1.if-not-is_end_state.false, le-leb _ _ c3.if-s-at-gt100.false)
+    simp (third c.args.at, le-leb _ _ c.if-s-at-gt3.false, sym c.is_end_state.ensures ∙ c.if-not-is_end_state.false, le-leb _ _ c.if-s-at-gt100.false)

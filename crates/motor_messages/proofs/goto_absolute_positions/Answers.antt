@@ -17,19 +17,19 @@ returns-then-s-ne18 c = simp (c.wrong_size.ensures, ne_eqb _ _ c.if-s-ne18.true)
 pub returns-then-not-is_start_byte : goal.returns-then-not-is_start_byte
 unfolding decode_form layout little_endian
 returns-then-not-is_start_byte c =
-    let c1 = c in let c2 = c in simp (c.outside.ensures, sym c1.is_start_byte.ensures ∙ c.if-not-is_start_byte.true, eq-eqb _ _ c2.if-s-ne18.false)
+    simp (c.outside.ensures, sym c.is_start_byte.ensures ∙ c.if-not-is_start_byte.true, eq-eqb _ _ c.if-s-ne18.false)
 
 pub returns-then-not-between : goal.returns-then-not-between
 unfolding decode_form layout little_endian
 returns-then-not-between c =
-    let c1 = c in let c2 = c in let c3 = c in let c4 = c in simp (c.outside-then-not-between.ensures, sym c1.between.ensures ∙ c.if-not-between.true, sym c3.is_start_byte.ensures ∙ c2.if-not-is_start_byte.false, eq-eqb _ _ c4.if-s-ne18.false)
+    simp (c.outside-then-not-between.ensures, sym c.between.ensures ∙ c.if-not-between.true, sym c.is_start_byte.ensures ∙ c.if-not-is_start_byte.false, eq-eqb _ _ c.if-s-ne18.false)
 
 pub returns-then-place-ne0 : goal.returns-then-place-ne0
 unfolding decode_form layout little_endian
 returns-then-place-ne0 c =
-    let c1 = c in let c2 = c in let c3 = c in let c4 = c in let c5 = c in let c6 = c in let c7 = c in simp (c.outside-then-place-ne0.ensures, sym c3.between.ensures ∙ c2.if-not-between.false, sym c5.is_start_byte.ensures ∙ c4.if-not-is_start_byte.false, eq-eqb _ _ c6.if-s-ne18.false, ending_refused c7.args.s.now 15 _ c1.ending_outside-place.ensures c.if-place-ne0.true)
+    simp (c.outside-then-place-ne0.ensures, sym c.between.ensures ∙ c.if-not-between.false, sym c.is_start_byte.ensures ∙ c.if-not-is_start_byte.false, eq-eqb _ _ c.if-s-ne18.false, ending_refused c.args.s.now 15 _ c.ending_outside-place.ensures c.if-place-ne0.true)
 
 pub returns : goal.returns
 returns c =
-    let c1 = c in let c2 = c in let c3 = c in let c4 = c in let c5 = c in let c6 = c in let c7 = c in let c8 = c in let c9 = c in let c10 = c in let c11 = c in let c12 = c in let inside = ending_inside c12.args.s.now 15 (omega arith) (sym c5.if-place-ne0.false ∙ c6.ending_outside-place.ensures) in
-    rw (to_z-of_z {w = w32} {z = c3.i32_of.result} (record { sfits = c3.i32_of.type_inv }), to_z-of_z {w = w32} {z = c1.i32_of-2.result} (record { sfits = c1.i32_of-2.type_inv }), c3.i32_of.ensures, c1.i32_of-2.ensures, c4.u32_at.ensures, c2.u32_at-2.ensures) (sym (positions_accepted c12.args.s.now (sym c10.is_start_byte.ensures ∙ c9.if-not-is_start_byte.false) c12.requires c11.if-s-ne18.false (sym c8.between.ensures ∙ c7.if-not-between.false) inside))
+    let inside = ending_inside c.args.s.now 15 (omega arith) (sym c.if-place-ne0.false ∙ c.ending_outside-place.ensures) in
+    rw (to_z-of_z {w = w32} {z = c.i32_of.result} (record { sfits = c.i32_of.type_inv }), to_z-of_z {w = w32} {z = c.i32_of-2.result} (record { sfits = c.i32_of-2.type_inv }), c.i32_of.ensures, c.i32_of-2.ensures, c.u32_at.ensures, c.u32_at-2.ensures) (sym (positions_accepted c.args.s.now (sym c.is_start_byte.ensures ∙ c.if-not-is_start_byte.false) c.requires c.if-s-ne18.false (sym c.between.ensures ∙ c.if-not-between.false) inside))

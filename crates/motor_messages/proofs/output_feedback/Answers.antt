@@ -13,8 +13,8 @@ returns-then-size-ne0 c = c.wrong_size-then-size-ne0.ensures ∙ sym (no_size _ 
 
 pub returns-then-wrong-size : goal.returns-then-wrong-size
 returns-then-wrong-size c =
-    let c1 = c in let c2 = c in let c3 = c in let c4 = c in let c5 = c in c.outside.ensures ∙ sym (feedback_wrong c5.args.s.now c1.wrong_feedback-wrong.result c1.wrong_feedback-wrong.ensures (whole_pairs _ c4.if-size-lt5.false c3.if-size-gt127.false c2.if-size-ne0.false) c.if-wrong-size.true)
+    c.outside.ensures ∙ sym (feedback_wrong c.args.s.now c.wrong_feedback-wrong.result c.wrong_feedback-wrong.ensures (whole_pairs _ c.if-size-lt5.false c.if-size-gt127.false c.if-size-ne0.false) c.if-wrong-size.true)
 
 pub returns : goal.returns
 returns c =
-    let c1 = c in let c2 = c in let c3 = c in let c4 = c in sym (feedback_right c4.args.s.now c.wrong_feedback-wrong.result c.wrong_feedback-wrong.ensures (whole_pairs _ c3.if-size-lt5.false c2.if-size-gt127.false c1.if-size-ne0.false) c.if-wrong-size.false)
+    sym (feedback_right c.args.s.now c.wrong_feedback-wrong.result c.wrong_feedback-wrong.ensures (whole_pairs _ c.if-size-lt5.false c.if-size-gt127.false c.if-size-ne0.false) c.if-wrong-size.false)

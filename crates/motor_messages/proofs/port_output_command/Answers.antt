@@ -11,29 +11,29 @@ use Rattle.motor_messages.proofs.port_output_command.Goals as goal
 pub returns-then-s-lt6 : goal.returns-then-s-lt6
 unfolding port_output_command
 returns-then-s-lt6 c =
-    let c1 = c in let s = c.args.s.now in
+    let s = c.args.s.now in
     let short : length s < 6 = c.if-s-lt6.true in
     c.wrong_size.ensures ∙ sym (too_short port_output_command s short)
 
 pub returns-in-12 : goal.returns-in-12
 unfolding port_output_command decode_type
 returns-in-12 c =
-    let c1 = c in simp (c.start_speed_for_degrees.ensures, le-ltb _ _ c1.if-s-lt6.false, c.in-12.is)
+    simp (c.start_speed_for_degrees.ensures, le-ltb _ _ c.if-s-lt6.false, c.in-12.is)
 
 pub returns-in-13 : goal.returns-in-13
 unfolding port_output_command decode_type
 returns-in-13 c =
-    let c1 = c in simp (c.goto_absolute_position.ensures, le-ltb _ _ c1.if-s-lt6.false, c.in-13.is)
+    simp (c.goto_absolute_position.ensures, le-ltb _ _ c.if-s-lt6.false, c.in-13.is)
 
 pub returns-in-14 : goal.returns-in-14
 unfolding port_output_command decode_type
 returns-in-14 c =
-    let c1 = c in simp (c.goto_absolute_positions.ensures, le-ltb _ _ c1.if-s-lt6.false, c.in-14.is)
+    simp (c.goto_absolute_positions.ensures, le-ltb _ _ c.if-s-lt6.false, c.in-14.is)
 
 pub returns-in-20 : goal.returns-in-20
 unfolding port_output_command decode_type
 returns-in-20 c =
-    let c1 = c in simp (c.preset_encoders.ensures, le-ltb _ _ c1.if-s-lt6.false, c.in-20.is)
+    simp (c.preset_encoders.ensures, le-ltb _ _ c.if-s-lt6.false, c.in-20.is)
 
 pub returns-in_default : goal.returns-in_default
 unfolding port_output_command decode_type

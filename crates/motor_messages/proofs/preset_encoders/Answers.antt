@@ -14,9 +14,9 @@ returns-then-s-ne14 c = simp (c.wrong_size.ensures, ne_eqb _ _ c.if-s-ne14.true)
 pub returns-then-not-is_start_byte : goal.returns-then-not-is_start_byte
 unfolding decode_form layout little_endian
 returns-then-not-is_start_byte c =
-    let c1 = c in let c2 = c in simp (c.outside.ensures, sym c1.is_start_byte.ensures ∙ c.if-not-is_start_byte.true, eq-eqb _ _ c2.if-s-ne14.false)
+    simp (c.outside.ensures, sym c.is_start_byte.ensures ∙ c.if-not-is_start_byte.true, eq-eqb _ _ c.if-s-ne14.false)
 
 pub returns : goal.returns
 unfolding decode_form layout little_endian
 returns c =
-    let c1 = c in let c2 = c in let c3 = c in let c4 = c in let c5 = c in let c6 = c in rw (to_z-of_z {w = w32} {z = c.i32_of-2.result} (record { sfits = c.i32_of-2.type_inv }), to_z-of_z {w = w32} {z = c1.i32_of.result} (record { sfits = c1.i32_of.type_inv })) (simp (c.i32_of-2.ensures, c.u32_at-2.ensures, c1.i32_of.ensures, c2.u32_at.ensures, sym c4.is_start_byte.ensures ∙ c3.if-not-is_start_byte.false, eq-eqb _ _ c5.if-s-ne14.false, c6.requires))
+    rw (to_z-of_z {w = w32} {z = c.i32_of-2.result} (record { sfits = c.i32_of-2.type_inv }), to_z-of_z {w = w32} {z = c.i32_of.result} (record { sfits = c.i32_of.type_inv })) (simp (c.i32_of-2.ensures, c.u32_at-2.ensures, c.i32_of.ensures, c.u32_at.ensures, sym c.is_start_byte.ensures ∙ c.if-not-is_start_byte.false, eq-eqb _ _ c.if-s-ne14.false, c.requires))

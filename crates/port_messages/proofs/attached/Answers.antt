@@ -9,9 +9,9 @@ use Rattle.port_messages.proofs.attached.Goals as goal
 pub returns-then-s-ne15 : goal.returns-then-s-ne15
 unfolding decode_form layout little_endian
 returns-then-s-ne15 c =
-    let c1 = c in simp (c.wrong_size.ensures, ne_eqb _ _ c.if-s-ne15.true, c1.requires)
+    simp (c.wrong_size.ensures, ne_eqb _ _ c.if-s-ne15.true, c.requires)
 
 pub returns : goal.returns
 unfolding decode_form layout little_endian
 returns c =
-    let c1 = c in let c2 = c in let c3 = c in let c4 = c in let c5 = c in rw (to_z-of_z {w = w32} {z = c.i32_of-2.result} (record { sfits = c.i32_of-2.type_inv }), to_z-of_z {w = w32} {z = c1.i32_of.result} (record { sfits = c1.i32_of.type_inv })) (simp (c.i32_of-2.ensures, c.u32_at-2.ensures, c1.i32_of.ensures, c2.u32_at.ensures, c3.u16_at.ensures, eq-eqb _ _ c4.if-s-ne15.false, c5.requires))
+    rw (to_z-of_z {w = w32} {z = c.i32_of-2.result} (record { sfits = c.i32_of-2.type_inv }), to_z-of_z {w = w32} {z = c.i32_of.result} (record { sfits = c.i32_of.type_inv })) (simp (c.i32_of-2.ensures, c.u32_at-2.ensures, c.i32_of.ensures, c.u32_at.ensures, c.u16_at.ensures, eq-eqb _ _ c.if-s-ne15.false, c.requires))

@@ -7,9 +7,9 @@ use Rattle.port_messages.proofs.attached_virtual.Goals as goal
 pub returns-then-s-ne9 : goal.returns-then-s-ne9
 unfolding decode_form layout little_endian
 returns-then-s-ne9 c =
-    let c1 = c in simp (c.wrong_size.ensures, ne_eqb _ _ c.if-s-ne9.true, c1.requires)
+    simp (c.wrong_size.ensures, ne_eqb _ _ c.if-s-ne9.true, c.requires)
 
 pub returns : goal.returns
 unfolding decode_form layout little_endian
 returns c =
-    let c1 = c in let c2 = c in let c3 = c in simp (c1.u16_at.ensures, eq-eqb _ _ c2.if-s-ne9.false, c3.requires)
+    simp (c.u16_at.ensures, eq-eqb _ _ c.if-s-ne9.false, c.requires)

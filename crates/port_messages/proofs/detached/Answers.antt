@@ -11,4 +11,4 @@ returns-then-s-ne5 c = simp (c.wrong_size.ensures, ne_eqb _ _ c.if-s-ne5.true)
 pub returns : goal.returns
 unfolding decode_form layout little_endian
 returns c =
-    let c1 = c in simp (eq-eqb _ _ c.if-s-ne5.false, c1.requires)
+    simp (eq-eqb _ _ c.if-s-ne5.false, c.requires)

@@ -13,17 +13,17 @@ returns-then-s-lt5 c = c.wrong_size.ensures ∙ sym (too_short hub_attached_io _
 pub returns-in-0 : goal.returns-in-0
 unfolding hub_attached_io decode_type
 returns-in-0 c =
-    let c1 = c in simp (c.detached.ensures, le-ltb _ _ c1.if-s-lt5.false, c.in-0.is)
+    simp (c.detached.ensures, le-ltb _ _ c.if-s-lt5.false, c.in-0.is)
 
 pub returns-in-1 : goal.returns-in-1
 unfolding hub_attached_io decode_type
 returns-in-1 c =
-    let c1 = c in simp (c.attached.ensures, le-ltb _ _ c1.if-s-lt5.false, c.in-1.is)
+    simp (c.attached.ensures, le-ltb _ _ c.if-s-lt5.false, c.in-1.is)
 
 pub returns-in-2 : goal.returns-in-2
 unfolding hub_attached_io decode_type
 returns-in-2 c =
-    let c1 = c in simp (c.attached_virtual.ensures, le-ltb _ _ c1.if-s-lt5.false, c.in-2.is)
+    simp (c.attached_virtual.ensures, le-ltb _ _ c.if-s-lt5.false, c.in-2.is)
 
 pub returns-in_default : goal.returns-in_default
 unfolding hub_attached_io decode_type

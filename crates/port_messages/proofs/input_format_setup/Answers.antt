@@ -11,14 +11,14 @@ returns-then-s-ne10 c = simp (c.wrong_size.ensures, ne_eqb _ _ c.if-s-ne10.true)
 pub returns-then-mode-gt15 : goal.returns-then-mode-gt15
 unfolding decode_form layout little_endian
 returns-then-mode-gt15 c =
-    let c1 = c in simp (c.outside.ensures, lt-leb _ _ c.if-mode-gt15.true, eq-eqb _ _ c1.if-s-ne10.false)
+    simp (c.outside.ensures, lt-leb _ _ c.if-mode-gt15.true, eq-eqb _ _ c.if-s-ne10.false)
 
 pub returns-then-notify-gt1 : goal.returns-then-notify-gt1
 unfolding decode_form layout little_endian
 returns-then-notify-gt1 c =
-    let c1 = c in let c2 = c in simp (c.outside-then-notify-gt1.ensures, lt-leb _ _ c.if-notify-gt1.true, le-leb _ _ c1.if-mode-gt15.false, eq-eqb _ _ c2.if-s-ne10.false)
+    simp (c.outside-then-notify-gt1.ensures, lt-leb _ _ c.if-notify-gt1.true, le-leb _ _ c.if-mode-gt15.false, eq-eqb _ _ c.if-s-ne10.false)
 
 pub returns : goal.returns
 unfolding decode_form layout little_endian
 returns c =
-    let c1 = c in let c2 = c in let c3 = c in simp (c.u32_at.ensures, le-leb _ _ c1.if-notify-gt1.false, le-leb _ _ c2.if-mode-gt15.false, eq-eqb _ _ c3.if-s-ne10.false)
+    simp (c.u32_at.ensures, le-leb _ _ c.if-notify-gt1.false, le-leb _ _ c.if-mode-gt15.false, eq-eqb _ _ c.if-s-ne10.false)

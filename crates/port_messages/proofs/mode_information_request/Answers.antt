@@ -12,14 +12,14 @@ returns-then-s-ne6 c = simp (c.wrong_size.ensures, ne_eqb _ _ c.if-s-ne6.true)
 pub returns-then-mode-gt15 : goal.returns-then-mode-gt15
 unfolding decode_form layout little_endian
 returns-then-mode-gt15 c =
-    let c1 = c in simp (c.outside.ensures, lt-leb _ _ c.if-mode-gt15.true, eq-eqb _ _ c1.if-s-ne6.false)
+    simp (c.outside.ensures, lt-leb _ _ c.if-mode-gt15.true, eq-eqb _ _ c.if-s-ne6.false)
 
 pub returns-then-not-is_information_type : goal.returns-then-not-is_information_type
 unfolding decode_form layout little_endian
 returns-then-not-is_information_type c =
-    let c1 = c in let c2 = c in let c3 = c in simp (c.outside-then-not-is_information_type.ensures, sym c1.is_information_type.ensures ∙ c.if-not-is_information_type.true, le-leb _ _ c2.if-mode-gt15.false, eq-eqb _ _ c3.if-s-ne6.false)
+    simp (c.outside-then-not-is_information_type.ensures, sym c.is_information_type.ensures ∙ c.if-not-is_information_type.true, le-leb _ _ c.if-mode-gt15.false, eq-eqb _ _ c.if-s-ne6.false)
 
 pub returns : goal.returns
 unfolding decode_form layout little_endian
 returns c =
-    let c1 = c in let c2 = c in let c3 = c in simp (sym c1.is_information_type.ensures ∙ c.if-not-is_information_type.false, le-leb _ _ c2.if-mode-gt15.false, eq-eqb _ _ c3.if-s-ne6.false)
+    simp (sym c.is_information_type.ensures ∙ c.if-not-is_information_type.false, le-leb _ _ c.if-mode-gt15.false, eq-eqb _ _ c.if-s-ne6.false)

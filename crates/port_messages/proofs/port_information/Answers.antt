@@ -13,12 +13,12 @@ returns-then-s-lt5 c = c.wrong_size.ensures ∙ sym (too_short port_information 
 pub returns-in-1 : goal.returns-in-1
 unfolding port_information decode_type
 returns-in-1 c =
-    let c1 = c in simp (c.port_modes.ensures, le-ltb _ _ c1.if-s-lt5.false, c.in-1.is)
+    simp (c.port_modes.ensures, le-ltb _ _ c.if-s-lt5.false, c.in-1.is)
 
 pub returns-in-2 : goal.returns-in-2
 unfolding port_information decode_type
 returns-in-2 c =
-    let c1 = c in simp (c.port_combinations.ensures, le-ltb _ _ c1.if-s-lt5.false, c.in-2.is)
+    simp (c.port_combinations.ensures, le-ltb _ _ c.if-s-lt5.false, c.in-2.is)
 
 pub returns-in_default : goal.returns-in_default
 unfolding port_information decode_type

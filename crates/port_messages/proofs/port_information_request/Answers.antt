@@ -11,9 +11,9 @@ returns-then-s-ne5 c = simp (c.wrong_size.ensures, ne_eqb _ _ c.if-s-ne5.true)
 pub returns-then-information-gt2 : goal.returns-then-information-gt2
 unfolding decode_form layout little_endian
 returns-then-information-gt2 c =
-    let c1 = c in simp (c.outside.ensures, lt-leb _ _ c.if-information-gt2.true, eq-eqb _ _ c1.if-s-ne5.false)
+    simp (c.outside.ensures, lt-leb _ _ c.if-information-gt2.true, eq-eqb _ _ c.if-s-ne5.false)
 
 pub returns : goal.returns
 unfolding decode_form layout little_endian
 returns c =
-    let c1 = c in simp (le-leb _ _ c.if-information-gt2.false, eq-eqb _ _ c1.if-s-ne5.false)
+    simp (le-leb _ _ c.if-information-gt2.false, eq-eqb _ _ c.if-s-ne5.false)

@@ -7,9 +7,9 @@ use Rattle.port_messages.proofs.virtual_connect.Goals as goal
 pub returns-then-s-ne6 : goal.returns-then-s-ne6
 unfolding decode_form layout little_endian
 returns-then-s-ne6 c =
-    let c1 = c in simp (c.wrong_size.ensures, ne_eqb _ _ c.if-s-ne6.true, c1.requires)
+    simp (c.wrong_size.ensures, ne_eqb _ _ c.if-s-ne6.true, c.requires)
 
 pub returns : goal.returns
 unfolding decode_form layout little_endian
 returns c =
-    let c1 = c in let c2 = c in simp (eq-eqb _ _ c1.if-s-ne6.false, c2.requires)
+    simp (eq-eqb _ _ c.if-s-ne6.false, c.requires)

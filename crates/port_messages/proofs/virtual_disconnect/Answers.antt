@@ -7,9 +7,9 @@ use Rattle.port_messages.proofs.virtual_disconnect.Goals as goal
 pub returns-then-s-ne5 : goal.returns-then-s-ne5
 unfolding decode_form layout little_endian
 returns-then-s-ne5 c =
-    let c1 = c in simp (c.wrong_size.ensures, ne_eqb _ _ c.if-s-ne5.true, c1.requires)
+    simp (c.wrong_size.ensures, ne_eqb _ _ c.if-s-ne5.true, c.requires)
 
 pub returns : goal.returns
 unfolding decode_form layout little_endian
 returns c =
-    let c1 = c in simp (eq-eqb _ _ c.if-s-ne5.false, c1.requires)
+    simp (eq-eqb _ _ c.if-s-ne5.false, c.requires)

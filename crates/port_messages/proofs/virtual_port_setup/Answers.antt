@@ -18,12 +18,12 @@ returns-then-s-lt4 c =
 pub returns-in-0 : goal.returns-in-0
 unfolding virtual_port_setup decode_type
 returns-in-0 c =
-    let c1 = c in simp (c.virtual_disconnect.ensures, le-ltb _ _ c1.if-s-lt4.false, c.in-0.is)
+    simp (c.virtual_disconnect.ensures, le-ltb _ _ c.if-s-lt4.false, c.in-0.is)
 
 pub returns-in-1 : goal.returns-in-1
 unfolding virtual_port_setup decode_type
 returns-in-1 c =
-    let c1 = c in simp (c.virtual_connect.ensures, le-ltb _ _ c1.if-s-lt4.false, c.in-1.is)
+    simp (c.virtual_connect.ensures, le-ltb _ _ c.if-s-lt4.false, c.in-1.is)
 
 pub returns-in_default : goal.returns-in_default
 unfolding virtual_port_setup decode_type

@@ -12,17 +12,17 @@ returns-then-s-lt5 c = simp (c.wrong_size.ensures, lt-ltb _ _ c.if-s-lt5.true)
 pub returns-then-place-ne0 : goal.returns-then-place-ne0
 unfolding decode_type hub_properties
 returns-then-place-ne0 c =
-    let c1 = c in let c2 = c in c.outside.ensures ∙ ap (refused 7) c1.outside_selector-place.ensures
-    ∙ sym (rw (le-ltb _ _ c2.if-s-lt5.false) (selector_outside _ _ _ _ (refused 7) (λ e. c.if-place-ne0.true (c1.outside_selector-place.ensures ∙ e))))
+    c.outside.ensures ∙ ap (refused 7) c.outside_selector-place.ensures
+    ∙ sym (rw (le-ltb _ _ c.if-s-lt5.false) (selector_outside _ _ _ _ (refused 7) (λ e. c.if-place-ne0.true (c.outside_selector-place.ensures ∙ e))))
 
 pub returns-then-carries : goal.returns-then-carries
 unfolding decode_type hub_properties
 returns-then-carries c =
-    let c1 = c in let c2 = c in let c3 = c in let c4 = c in let e = selectors_inside _ _ _ (sym c3.outside_selector-place.ensures ∙ c2.if-place-ne0.false) in
-    simp (c.payload.ensures, sym c1.carries.ensures ∙ c.if-carries.true, e.0, e.1, le-ltb _ _ c4.if-s-lt5.false)
+    let e = selectors_inside _ _ _ (sym c.outside_selector-place.ensures ∙ c.if-place-ne0.false) in
+    simp (c.payload.ensures, sym c.carries.ensures ∙ c.if-carries.true, e.0, e.1, le-ltb _ _ c.if-s-lt5.false)
 
 pub returns-else-carries : goal.returns-else-carries
 unfolding decode_type hub_properties
 returns-else-carries c =
-    let c1 = c in let c2 = c in let c3 = c in let c4 = c in let e = selectors_inside _ _ _ (sym c3.outside_selector-place.ensures ∙ c2.if-place-ne0.false) in
-    simp (c.property_command.ensures, sym c1.carries.ensures ∙ c.if-carries.false, e.0, e.1, le-ltb _ _ c4.if-s-lt5.false)
+    let e = selectors_inside _ _ _ (sym c.outside_selector-place.ensures ∙ c.if-place-ne0.false) in
+    simp (c.property_command.ensures, sym c.carries.ensures ∙ c.if-carries.false, e.0, e.1, le-ltb _ _ c.if-s-lt5.false)

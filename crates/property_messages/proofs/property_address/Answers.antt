@@ -11,4 +11,4 @@ returns-then-s-ne11 c = simp (c.wrong_size.ensures, ne_eqb _ _ c.if-s-ne11.true)
 pub returns : goal.returns
 unfolding decode_form layout little_endian big_endian
 returns c =
-    let c1 = c in simp (c.u48_at.ensures, eq-eqb _ _ c1.if-s-ne11.false)
+    simp (c.u48_at.ensures, eq-eqb _ _ c.if-s-ne11.false)

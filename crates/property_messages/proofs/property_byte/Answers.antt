@@ -11,9 +11,9 @@ returns-then-s-ne6 c = simp (c.wrong_size.ensures, ne_eqb _ _ c.if-s-ne6.true)
 pub returns-then-greatest-value : goal.returns-then-greatest-value
 unfolding decode_form layout little_endian
 returns-then-greatest-value c =
-    let c1 = c in let c2 = c in simp (c.outside.ensures, lt-leb _ _ c.if-greatest-value.true, ← c1.greatest.ensures, eq-eqb _ _ c2.if-s-ne6.false)
+    simp (c.outside.ensures, lt-leb _ _ c.if-greatest-value.true, ← c.greatest.ensures, eq-eqb _ _ c.if-s-ne6.false)
 
 pub returns : goal.returns
 unfolding decode_form layout little_endian
 returns c =
-    let c1 = c in let c2 = c in simp (le-leb _ _ c.if-greatest-value.false, ← c1.greatest.ensures, eq-eqb _ _ c2.if-s-ne6.false)
+    simp (le-leb _ _ c.if-greatest-value.false, ← c.greatest.ensures, eq-eqb _ _ c.if-s-ne6.false)

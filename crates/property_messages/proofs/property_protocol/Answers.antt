@@ -7,9 +7,9 @@ use Rattle.property_messages.proofs.property_protocol.Goals as goal
 pub returns-then-s-ne7 : goal.returns-then-s-ne7
 unfolding decode_form layout little_endian
 returns-then-s-ne7 c =
-    let c1 = c in simp (c.wrong_size.ensures, ne_eqb _ _ c.if-s-ne7.true, c1.requires)
+    simp (c.wrong_size.ensures, ne_eqb _ _ c.if-s-ne7.true, c.requires)
 
 pub returns : goal.returns
 unfolding decode_form layout little_endian
 returns c =
-    let c1 = c in let c2 = c in simp (c.u16_at.ensures, eq-eqb _ _ c1.if-s-ne7.false, c2.requires)
+    simp (c.u16_at.ensures, eq-eqb _ _ c.if-s-ne7.false, c.requires)

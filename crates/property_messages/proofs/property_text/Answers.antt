@@ -11,9 +11,9 @@ returns-then-s-lt6 c = simp (c.wrong_size.ensures, lt-leb _ _ c.if-s-lt6.true)
 pub returns-then-most-s : goal.returns-then-most-s
 unfolding decode_form layout little_endian
 returns-then-most-s c =
-    let c1 = c in let c2 = c in simp (c.wrong_size-then-most-s.ensures, lt-leb _ _ c.if-most-s.true, le-leb _ _ c1.if-s-lt6.false, ← c2.requires)
+    simp (c.wrong_size-then-most-s.ensures, lt-leb _ _ c.if-most-s.true, le-leb _ _ c.if-s-lt6.false, ← c.requires)
 
 pub returns : goal.returns
 unfolding decode_form layout little_endian
 returns c =
-    let c1 = c in let c2 = c in let c3 = c in simp (le-leb _ _ c1.if-most-s.false, le-leb _ _ c2.if-s-lt6.false, ← c3.requires)
+    simp (le-leb _ _ c.if-most-s.false, le-leb _ _ c.if-s-lt6.false, ← c.requires)

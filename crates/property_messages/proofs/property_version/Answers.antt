@@ -13,4 +13,4 @@ returns-then-s-ne9 c = simp (c.wrong_size.ensures, ne_eqb _ _ c.if-s-ne9.true)
 pub returns : goal.returns
 unfolding decode_form layout little_endian
 returns c =
-    let c1 = c in rw (to_z-of_z {w = w32} {z = c.i32_of.result} (record { sfits = c.i32_of.type_inv })) (simp (c.i32_of.ensures, c.u32_at.ensures, eq-eqb _ _ c1.if-s-ne9.false))
+    rw (to_z-of_z {w = w32} {z = c.i32_of.result} (record { sfits = c.i32_of.type_inv })) (simp (c.i32_of.ensures, c.u32_at.ensures, eq-eqb _ _ c.if-s-ne9.false))

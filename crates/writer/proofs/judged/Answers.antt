@@ -10,8 +10,8 @@ smallest_size-requires c = c.requires
 
 pub returns-then-not-open_fits : goal.returns-then-not-open_fits
 returns-then-not-open_fits c =
-    let c1 = c in let c2 = c in let a = c.args in
-    chosen a.way a.m a.«open».now _ c2.selected.ensures c1.in-Chosen.is
+    let a = c.args in
+    chosen a.way a.m a.«open».now _ c.selected.ensures c.in-Chosen.is
     ∙ wrong_size a.m a.«open».now (sym c.open_fits.ensures ∙ c.if-not-open_fits.true)
     ∙ ap (refused 6) (sym c.smallest_size.ensures)
 

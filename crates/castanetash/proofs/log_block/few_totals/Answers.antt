@@ -2,7 +2,6 @@ use mathlib.Core.Path.{sym, ◌∙◌, ap}
 use mathlib.Core.Bool.{Bool, cond}
 use Rattle.rules.specs.Answer.{refused}
 use Rattle.answers.specs.Call.{call_number}
-use borrow.Author.Rules.{rules}
 use Rattle.castanetash.proofs.log_block.few_totals.Goals as goal
 
 pub returns-then-is_sound : goal.returns-then-is_sound

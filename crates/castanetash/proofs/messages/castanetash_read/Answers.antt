@@ -8,7 +8,6 @@ use Rattle.protocol.specs.declared.Way.{Way}
 use Rattle.answers.proofs.Fills.{filled_as}
 use Rattle.castanetash.specs.Answers.{reading_row, read_answer}
 use Rattle.castanetash.proofs.OpenPart.{open_short}
-use borrow.Author.Rules.{rules}
 use Rattle.castanetash.proofs.messages.castanetash_read.Goals as goal
 
 -- the row of a reading, where its parts are known by equations

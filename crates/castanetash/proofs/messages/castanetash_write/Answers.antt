@@ -7,7 +7,6 @@ use Rattle.row_messages.specs.RowWriting.{row_encoded}
 use Rattle.writer.specs.Writing.{WriteAnswer, answered, lent_after, limited}
 use Rattle.answers.specs.Call.{call_number}
 use Rattle.castanetash.specs.Answers.{written_count}
-use borrow.Author.Rules.{rules}
 use Rattle.castanetash.proofs.messages.castanetash_write.Goals as goal
 
 -- the answer and the bytes afterwards, where the way is known by an equation

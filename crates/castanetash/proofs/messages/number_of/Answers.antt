@@ -3,7 +3,6 @@ use Rattle.protocol.specs.declared.Written.{Written}
 use Rattle.writer.specs.Writing.{answer_of}
 use Rattle.answers.specs.Call.{call_number}
 use Rattle.castanetash.specs.Answers.{written_count}
-use borrow.Author.Rules.{rules}
 use Rattle.castanetash.proofs.messages.number_of.Goals as goal
 
 pub returns-in-Length : goal.returns-in-Length

@@ -2,7 +2,6 @@ use mathlib.Core.Path.{ap}
 use Rattle.answers.specs.Call.{mapped}
 use Rattle.answers.proofs.Fills.{filled_as}
 use Rattle.table_cells.specs.Rows.{format_row}
-use borrow.Author.Rules.{rules}
 use Rattle.castanetash.proofs.port_table.castanetash_format.Goals as goal
 
 pub returns : goal.returns

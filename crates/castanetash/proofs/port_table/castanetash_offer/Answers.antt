@@ -5,7 +5,6 @@ use Rattle.protocol.specs.declared.Way.{Way}
 use Rattle.rules.specs.Offer.{Entry, offer_by_cells, cells_after}
 use Rattle.rules.specs.Answer.{Answer, outcome}
 use Rattle.answers.specs.Call.{plain_number}
-use borrow.Author.Rules.{rules}
 use Rattle.castanetash.proofs.port_table.castanetash_offer.Goals as goal
 
 -- an answer and the cells afterwards, where the way is known by an equation

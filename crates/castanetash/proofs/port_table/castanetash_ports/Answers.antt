@@ -1,6 +1,5 @@
 use mathlib.Core.Path.{◌∙◌, ap}
 use Rattle.answers.specs.Call.{call_number}
-use borrow.Author.Rules.{rules}
 use Rattle.castanetash.proofs.port_table.castanetash_ports.Goals as goal
 
 pub returns : goal.returns

@@ -2,7 +2,6 @@ use mathlib.Core.Path.{sym, ◌∙◌, ap}
 use Rattle.queries.specs.declared.present.Ports.{Ports}
 use Rattle.queries.specs.PortsAnswer.{answer_of}
 use Rattle.answers.specs.Call.{call_number}
-use borrow.Author.Rules.{rules}
 use Rattle.castanetash.proofs.port_table.ports_number.Goals as goal
 
 pub returns-in-Present : goal.returns-in-Present

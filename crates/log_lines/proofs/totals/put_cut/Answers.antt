@@ -18,7 +18,7 @@ returns-then-refused-eq-MOST_COUNT c =
 
 pub returns : goal.returns
 returns c =
-    let c₂ = c in let c₁ = c in let c₀ = c in let a = c.args in
+    let c₁ = c in let c₀ = c in let a = c.args in
     let last = c.put_last-n in
     let total = c.put_total in
     cut_written a.out.now (numbered a.lines (Line.refused 19 ∷ [])) (total_text (a.lines + 1) (a.refused + 1)) last.result total.result last.new.out total.new.out

@@ -33,9 +33,6 @@ loop-i-preserved c =
     let a = c.args in
     moved_one a.input.now a.from a.to pre.0 pre.1 l.input l.i l.invariant c.loop-i-test.true
 
-pub shape_of-input : goal.shape_of-input
-shape_of-input c = filled_length c.loop-i.invariant.filled
-
 pub returns : goal.returns
 returns c =
     let pre = c.requires in

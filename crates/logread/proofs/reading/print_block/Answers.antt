@@ -7,36 +7,35 @@ use borrow.Author.Rules.{rules}
 use Rattle.logread.proofs.reading.print_block.Goals as goal
 
 pub slice_bounds-print-end : goal.slice_bounds-print-end
-slice_bounds-print-end c =
+slice_bounds-print-end g c =
     let a = c.args in
     let r = run_of a.table.now a.lines a.refused a.input.now in
     let b = c.read_block in
     subst (λ (n : ℕ). c.in-Done.written ≤ n) (sym c.out-1.given) (written_most r a.out.now c.requires b.result b.ensures.0 c.in-Done.is b.ensures.3)
 
 pub slice_bounds-print-end-in-Done : goal.slice_bounds-print-end-in-Done
-slice_bounds-print-end-in-Done c =
-    let taken = c.taken-1 in
+slice_bounds-print-end-in-Done g c =
     let a = c.args in
     let r = run_of a.table.now a.lines a.refused a.input.now in
     let b = c.read_block in
     sym (length-take-le c.in-Done.written b.new.out (subst (λ (n : ℕ). c.in-Done.written ≤ n) (sym c.out-1.given) (written_most r a.out.now c.requires b.result b.ensures.0 c.in-Done.is b.ensures.3)))
 
 pub print-requires : goal.print-requires
-print-requires c =
+print-requires g c =
     let a = c.args in
     let r = run_of a.table.now a.lines a.refused a.input.now in
     let b = c.read_block in
     block_lines r a.out.now c.requires b.result b.ensures.0 c.in-Done.is b.ensures.3 b.ensures.2
 
 pub returns-in-Done : goal.returns-in-Done
-returns-in-Done c =
+returns-in-Done g c =
     let a = c.args in
     let r = run_of a.table.now a.lines a.refused a.input.now in
     let b = c.read_block in
     block_done r a.out.now c.requires b.result b.ensures.0 c.in-Done.is b.ensures.3 b.ensures.1 b.ensures.2 (λ (k : ℕ). (c.type_inv.input k).fits)
 
 pub returns-in-Refused : goal.returns-in-Refused
-returns-in-Refused c =
+returns-in-Refused g c =
     let a = c.args in
     let r = run_of a.table.now a.lines a.refused a.input.now in
     let b = c.read_block in

@@ -13,12 +13,12 @@ loop-i-init c = (omega arith, refl)
 
 pub returns-then-not-is_present : goal.returns-then-not-is_present
 returns-then-not-is_present c =
-    let c1 = c in let c2 = c in let c3 = c in sym (ap (λ (b : Bool). cond b 0 10) (c2.loop-i.invariant.1 ∙ absent_here (view_of_cells c3.args.table.now) c3.args.pairs.now c2.loop-i.i c1.loop-i-test.true (sym c.is_present.ensures ∙ c.if-not-is_present.true)))
+    sym (ap (λ (b : Bool). cond b 0 10) (c.loop-i.invariant.1 ∙ absent_here (view_of_cells c.args.table.now) c.args.pairs.now c.loop-i.i c.loop-i-test.true (sym c.is_present.ensures ∙ c.if-not-is_present.true)))
 
 pub loop-i-preserved : goal.loop-i-preserved
 loop-i-preserved c =
-    let c1 = c in let c2 = c in let c3 = c in (search rules, c2.loop-i.invariant.1 ∙ present_here (view_of_cells c3.args.table.now) c3.args.pairs.now c2.loop-i.i c1.loop-i-test.true (sym c.is_present.ensures ∙ c.if-not-is_present.false))
+    (search rules, c.loop-i.invariant.1 ∙ present_here (view_of_cells c.args.table.now) c.args.pairs.now c.loop-i.i c.loop-i-test.true (sym c.is_present.ensures ∙ c.if-not-is_present.false))
 
 pub returns : goal.returns
 returns c =
-    let c1 = c in sym (ap (λ (b : Bool). cond b 0 10) (c.loop-i.invariant.1 ∙ ap (λ l. all_present (view_of_cells c1.args.table.now) (ports_named l)) (drop_of_length-le c1.args.pairs.now {i = c.loop-i.i} c.loop-i-test.false)))
+    sym (ap (λ (b : Bool). cond b 0 10) (c.loop-i.invariant.1 ∙ ap (λ l. all_present (view_of_cells c.args.table.now) (ports_named l)) (drop_of_length-le c.args.pairs.now {i = c.loop-i.i} c.loop-i-test.false)))

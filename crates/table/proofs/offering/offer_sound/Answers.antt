@@ -11,7 +11,6 @@ pub offer_effect-requires : goal.offer_effect-requires
 offer_effect-requires c =
     let p = c.requires in
     let a = c.args in
-    let cells = c.args.table.now in
     (p, fits_by a.message.now a.way a.experiment _ c.effect_of.result (all_bytes_lem a.message.now (λ (k : ℕ). omega (arith, c.type_inv.message k))) (omega (arith)) (sym c.read.ensures ∙ ap answer_of c.in-Accepted.is) c.effect_of.ensures)
 
 pub returns-in-Accepted : goal.returns-in-Accepted
