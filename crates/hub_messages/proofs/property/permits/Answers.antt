@@ -2,13 +2,14 @@ use Prim.Native.Nat.{ℕ, suc, ◌-◌, ◌/◌, ◌^◌, ◌≤◌}
 use native.Mathlib.Omega.{arith}
 use mathlib.Core.Path.{◌≡◌, refl}
 use mathlib.Core.Bool.{Bool, true}
-use mathlib.Core.List.{List, [], ◌∷◌}
+use mathlib.Core.List.{List}
 use borrow.Author.Rules.{rules}
 use lib.Bits.{bit_and}
 use lib.Dec.{eqb}
 use lib.ListN.{length, get_or, replicate}
 use Rattle.protocol.specs.Properties.{permits}
 use Rattle.protocol.proofs.Table.{every, entry, same, same_eq}
+use Rattle.hub_messages.specs.declared.property.TheConstants.{PERMITTED}
 use Rattle.hub_messages.proofs.property.permits.Goals as goal
 
 -- bit i of a byte
@@ -38,7 +39,4 @@ rule table passes fifteen p o p1 p15 o1 o6 =
 
 pub returns : goal.returns
 unfolding permits
-returns c =
-    -- the constant of the code
-    let table : List ℕ = 63 ∷ 54 ∷ 48 ∷ 48 ∷ 54 ∷ 54 ∷ 48 ∷ 48 ∷ 48 ∷ 48 ∷ 48 ∷ 57 ∷ 48 ∷ 48 ∷ 49 ∷ [] in
-    rule table refl refl c.args.property c.args.operation (search rules) (search rules) (search rules) (search rules)
+returns c = rule PERMITTED refl refl c.args.property c.args.operation (search rules) (search rules) (search rules) (search rules)
