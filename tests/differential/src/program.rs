@@ -18,12 +18,12 @@ pub fn root() -> PathBuf {
     root.expect("two folders below the root").to_owned()
 }
 
-/// The path of the product's log reader, which the check of the crates builds.
+/// The path of the product's log reader, which `rt ci` builds.
 pub fn logread_path() -> PathBuf {
-    let path = root().join("target/bin/logread");
+    let path = root().join("crates/logread/out/logread");
     assert!(
         path.exists(),
-        "{} doesn't exist: `rt check logread` builds it",
+        "{} doesn't exist: `rt run` in crates/logread builds it",
         path.display()
     );
     path

@@ -303,7 +303,7 @@ fn readme_commands_print_what_readme_says() {
     let archive = root().join("target/staticlib/libcastanetash.a");
     assert!(
         archive.exists(),
-        "{} doesn't exist: `rt staticlib castanetash` writes it",
+        "{} doesn't exist: `tools/staticlib` writes it",
         archive.display()
     );
     let mut compilers = BTreeSet::new();
@@ -314,7 +314,7 @@ fn readme_commands_print_what_readme_says() {
         for command in commands {
             let compiler = command.split(' ').next().expect("a word");
             // The library is there already.
-            if compiler == "rt" {
+            if compiler == "tools/staticlib" {
                 continue;
             }
             compilers.insert(compiler);

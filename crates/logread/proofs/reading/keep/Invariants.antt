@@ -1,8 +1,6 @@
 use Prim.Native.Nat.{◌-◌}
-use native.Mathlib.Omega.{arith}
-use borrow.Author.Rules.{rules}
-use Rattle.log_rules.proofs.OverwriteIfRoom.{Copied, copied_none, copied_all, filled_length}
-use Rattle.logread.proofs.Moving.{kept_bytes, kept_length, moved_one}
+use Rattle.log_rules.proofs.OverwriteIfRoom.{Copied}
+use Rattle.logread.proofs.Moving.{kept_bytes}
 use Rattle.logread.proofs.reading.keep.Given as goal
 
 -- so many bytes were moved

@@ -1,24 +1,7 @@
-use Prim.Native.Nat.{ℕ, ◌≤◌}
-use mathlib.Core.Path.{sym, subst}
-use lib.Seq.{length-take-le}
+use Prim.Native.Nat.{ℕ}
 use Rattle.table.specs.BlockAnswer.{run_of}
-use Rattle.logread.proofs.Blocks.{written_most, block_lines, block_done, not_refused}
-use borrow.Author.Rules.{rules}
+use Rattle.logread.proofs.Blocks.{block_lines, block_done, not_refused}
 use Rattle.logread.proofs.reading.print_block.Goals as goal
-
-pub slice_bounds-print-end : goal.slice_bounds-print-end
-slice_bounds-print-end g c =
-    let a = c.args in
-    let r = run_of a.table.now a.lines a.refused a.input.now in
-    let b = c.read_block in
-    subst (λ (n : ℕ). c.in-Done.written ≤ n) (sym c.out-1.given) (written_most r a.out.now c.requires b.result b.ensures.0 c.in-Done.is b.ensures.3)
-
-pub slice_bounds-print-end-in-Done : goal.slice_bounds-print-end-in-Done
-slice_bounds-print-end-in-Done g c =
-    let a = c.args in
-    let r = run_of a.table.now a.lines a.refused a.input.now in
-    let b = c.read_block in
-    sym (length-take-le c.in-Done.written b.new.out (subst (λ (n : ℕ). c.in-Done.written ≤ n) (sym c.out-1.given) (written_most r a.out.now c.requires b.result b.ensures.0 c.in-Done.is b.ensures.3)))
 
 pub print-requires : goal.print-requires
 print-requires g c =

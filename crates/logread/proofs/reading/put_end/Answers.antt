@@ -1,5 +1,4 @@
 use Rattle.logread.proofs.Endings.{ending_put}
-use borrow.Author.Rules.{rules}
 use Rattle.logread.proofs.reading.put_end.Goals as goal
 
 pub returns : goal.returns
