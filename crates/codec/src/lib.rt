@@ -39,7 +39,8 @@ pub fn read(message: &[u8], way: Way) -> Reading
     if message.len() < 3 {
         return refuse(3, 0);
     }
-    if message[1] != 0 {
+    let is_other_hub = message[1] != 0;
+    if is_other_hub {
         return refuse(4, 1);
     }
     match way {

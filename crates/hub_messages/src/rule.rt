@@ -53,7 +53,8 @@ pub fn is_start_byte(start: u8) -> bool
 pub fn is_signed_speed(speed: i8) -> bool
     ensures { result ≡ Form.signed_speed speed }
 {
-    if speed < -100 {
+    let is_below = speed < -100;
+    if is_below {
         return false;
     }
     speed <= 100
@@ -89,7 +90,8 @@ pub fn wrong_feedback(pairs: &[u8]) -> usize
 {
     let mut i = 1;
     while i < pairs.len() {
-        if 31 < pairs[i] {
+        let is_over = 31 < pairs[i];
+        if is_over {
             return i;
         }
         i += 2;

@@ -111,7 +111,8 @@ fn mode_bias(s: &[u8]) -> Reading
         return outside(4);
     }
     let bias = s[6];
-    if 100 < bias {
+    let is_over = 100 < bias;
+    if is_over {
         return outside(6);
     }
     Reading::Accepted(Message::ModeBias {

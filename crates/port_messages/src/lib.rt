@@ -244,7 +244,8 @@ pub fn input_format(s: &[u8]) -> Reading
 pub fn virtual_port_setup(s: &[u8]) -> Reading
     ensures { answer_of result ≡ decode_type virtual_port_setup s.now }
 {
-    if s.len() < 4 {
+    let is_short = s.len() < 4;
+    if is_short {
         return wrong_size(4);
     }
     let sub = s[3];

@@ -53,7 +53,8 @@ fn is_sound_place(table: &[u32], row: &[u8], i: usize) -> bool
 pub fn is_sound(table: &[u32]) -> bool
     ensures { result ≡ sound table.now }
 {
-    if table.len() != TABLE_SIZE {
+    let is_other_size = table.len() != TABLE_SIZE;
+    if is_other_size {
         return false;
     }
     let mut row = [NOWHERE; ROW];

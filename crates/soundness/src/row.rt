@@ -24,7 +24,8 @@ fn note(table: &[u32], row: &mut [u8], i: usize) -> bool
         return false;
     }
     let at = port as usize;
-    if row[at] != NOWHERE {
+    let is_noted = row[at] != NOWHERE;
+    if is_noted {
         return false;
     }
     row[at] = i as u8;

@@ -50,7 +50,8 @@ pub(crate) fn offer_effect(table: &mut [u32], e: Effect, message: &[u8]) -> Outc
     ensures { (answer_of result ≡ outcome (judged_by table.old e message.now)) × (table.new ≡ applied_to table.old (judged_by table.old e message.now)) }
 {
     let refusal = judged(table, e, message);
-    if refusal != 0 {
+    let is_refused = refusal != 0;
+    if is_refused {
         return Outcome::Refused {
             number: refusal,
             place: 0,

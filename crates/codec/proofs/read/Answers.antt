@@ -24,19 +24,19 @@ unfolding decode
 returns-then-message-lt3 c =
     simp (c.refuse-then-message-lt3.ensures, lt-ltb _ _ c.if-message-lt3.true, eq-eqb _ _ c.if-size-message.false, le-ltb _ _ c.if-size-gt127.false, ne_eqb _ _ c.if-message-eq0.false)
 
-pub returns-then-message-ne0 : goal.returns-then-message-ne0
+pub returns-then-is_other_hub : goal.returns-then-is_other_hub
 unfolding decode
-returns-then-message-ne0 c =
-    simp (c.refuse-then-message-ne0.ensures, ne_eqb _ 0 c.if-message-ne0.true, le-ltb _ _ c.if-message-lt3.false, eq-eqb _ _ c.if-size-message.false, le-ltb _ _ c.if-size-gt127.false, ne_eqb _ _ c.if-message-eq0.false)
+returns-then-is_other_hub c =
+    simp (c.refuse-then-is_other_hub.ensures, ne_eqb _ 0 c.if-is_other_hub.true, le-ltb _ _ c.if-message-lt3.false, eq-eqb _ _ c.if-size-message.false, le-ltb _ _ c.if-size-gt127.false, ne_eqb _ _ c.if-message-eq0.false)
 
 pub returns-in-Down : goal.returns-in-Down
 returns-in-Down c =
     c.read_down.ensures ∙ ap (λ (w : Way). decode_way w c.args.message.now) (sym c.in-Down.is)
     ∙ sym
-    (headed c.args.way c.args.message.now (ne_eqb _ _ c.if-message-eq0.false) (le-ltb _ _ c.if-size-gt127.false) (eq-eqb _ _ c.if-size-message.false) (le-ltb _ _ c.if-message-lt3.false) (eq-eqb _ _ c.if-message-ne0.false))
+    (headed c.args.way c.args.message.now (ne_eqb _ _ c.if-message-eq0.false) (le-ltb _ _ c.if-size-gt127.false) (eq-eqb _ _ c.if-size-message.false) (le-ltb _ _ c.if-message-lt3.false) (eq-eqb _ _ c.if-is_other_hub.false))
 
 pub returns-in-Up : goal.returns-in-Up
 returns-in-Up c =
     c.read_up.ensures ∙ ap (λ (w : Way). decode_way w c.args.message.now) (sym c.in-Up.is)
     ∙ sym
-    (headed c.args.way c.args.message.now (ne_eqb _ _ c.if-message-eq0.false) (le-ltb _ _ c.if-size-gt127.false) (eq-eqb _ _ c.if-size-message.false) (le-ltb _ _ c.if-message-lt3.false) (eq-eqb _ _ c.if-message-ne0.false))
+    (headed c.args.way c.args.message.now (ne_eqb _ _ c.if-message-eq0.false) (le-ltb _ _ c.if-size-gt127.false) (eq-eqb _ _ c.if-size-message.false) (le-ltb _ _ c.if-message-lt3.false) (eq-eqb _ _ c.if-is_other_hub.false))

@@ -13,12 +13,12 @@ unfolding decode_form layout little_endian
 returns-then-mode-gt15 c =
     simp (c.outside.ensures, lt-leb _ _ c.if-mode-gt15.true, eq-eqb _ _ c.if-s-ne7.false)
 
-pub returns-then-bias-gt100 : goal.returns-then-bias-gt100
+pub returns-then-is_over : goal.returns-then-is_over
 unfolding decode_form layout little_endian
-returns-then-bias-gt100 c =
-    simp (c.outside-then-bias-gt100.ensures, lt-leb _ 100 c.if-bias-gt100.true, le-leb _ _ c.if-mode-gt15.false, eq-eqb _ _ c.if-s-ne7.false)
+returns-then-is_over c =
+    simp (c.outside-then-is_over.ensures, lt-leb _ 100 c.if-is_over.true, le-leb _ _ c.if-mode-gt15.false, eq-eqb _ _ c.if-s-ne7.false)
 
 pub returns : goal.returns
 unfolding decode_form layout little_endian
 returns c =
-    simp (le-leb _ 100 c.if-bias-gt100.false, le-leb _ _ c.if-mode-gt15.false, eq-eqb _ _ c.if-s-ne7.false, c.requires)
+    simp (le-leb _ 100 c.if-is_over.false, le-leb _ _ c.if-mode-gt15.false, eq-eqb _ _ c.if-s-ne7.false, c.requires)

@@ -12,8 +12,8 @@ returns-then-place-eq-FREE c =
 
 pub returns : goal.returns
 returns c =
-    let start = c in let a = c.args in
+    let a = c.args in
     let at = c.place_at-place in
     let used = c.if-place-eq-FREE.false in
     c.is_sound_record.ensures
-    ∙ record_alone a.table.now at.result.now a.i at.ensures.0 used (row_alone a.table.now a.row.now at.result.now a.i start.requires.2 start.requires.1 at.ensures.0 used)
+    ∙ record_alone a.table.now at.result.now a.i at.ensures.0 used (row_alone a.table.now a.row.now at.result.now a.i c.requires.2 c.requires.1 at.ensures.0 used)

@@ -31,9 +31,9 @@ open_outside-wrong-requires c = sym c.open_fits.ensures ∙ c.if-not-open_fits.f
 
 pub returns-then-wrong-ne0 : goal.returns-then-wrong-ne0
 returns-then-wrong-ne0 c =
-    let start = c in let a = c.args in
+    let a = c.args in
     chosen a.way a.m a.«open».now _ c.selected.ensures c.in-Chosen.is
-    ∙ an_open_byte_outside a.m a.«open».now a.slots start.requires (sym c.open_fits.ensures ∙ c.if-not-open_fits.false)
+    ∙ an_open_byte_outside a.m a.«open».now a.slots c.requires (sym c.open_fits.ensures ∙ c.if-not-open_fits.false)
     (sym c.first_outside-place.ensures ∙ c.if-place-ne0.false) (λ e. c.if-wrong-ne0.true (c.open_outside-wrong.ensures ∙ e))
     ∙ ap (refused 7) (sym c.open_outside-wrong.ensures)
 
@@ -44,7 +44,7 @@ returns-in-Refused c =
 
 pub returns-else-wrong-ne0 : goal.returns-else-wrong-ne0
 returns-else-wrong-ne0 c =
-    let start = c in let a = c.args in
-    all_good a.way a.m a.«open».now a.slots start.requires
+    let a = c.args in
+    all_good a.way a.m a.«open».now a.slots c.requires
     (chosen a.way a.m a.«open».now _ c.selected.ensures c.in-Chosen.is) (sym c.open_fits.ensures ∙ c.if-not-open_fits.false)
     (sym c.first_outside-place.ensures ∙ c.if-place-ne0.false) (sym c.open_outside-wrong.ensures ∙ c.if-wrong-ne0.false)

@@ -40,7 +40,7 @@ returns-in-PortValueCombined c = smallest_of c.in-PortValueCombined.is c.require
 
 pub returns-in_default : goal.returns-in_default
 returns-in_default c =
-    let start = c in let widths = c.widths in
+    let widths = c.widths in
     let ended : Ended c.args.m = record {
       no_text = c.in_default.not-PropertyText;
       no_list = c.in_default.not-PortCombinations;
@@ -51,5 +51,5 @@ returns-in_default c =
       no_combined = c.in_default.not-PortValueCombined;
     } in
     sym (add-zero (type_place + widths.result))
-    ∙ smallest_is start.args.m start.args.slots start.requires widths.result widths.ensures.0 nothing
-    (nothing_follows start.args.m ended) (λ vs. refl)
+    ∙ smallest_is c.args.m c.args.slots c.requires widths.result widths.ensures.0 nothing
+    (nothing_follows c.args.m ended) (λ vs. refl)

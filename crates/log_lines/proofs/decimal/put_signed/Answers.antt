@@ -15,10 +15,10 @@ put_digits-requires c = let m = c.magnitude-size in omega (arith, length_ninetee
 
 pub returns-then-n-ge0 : goal.returns-then-n-ge0
 returns-then-n-ge0 c =
-    let start = c in let a = c.args in
+    let a = c.args in
     let m = c.magnitude-size in
     let put = c.put_digits.ensures in
-    let text : decimal m.result ≡ signed_decimal a.n = upper_text a.n start.ranges.n c.if-n-ge0.true m.result m.ensures.0 in
+    let text : decimal m.result ≡ signed_decimal a.n = upper_text a.n c.ranges.n c.if-n-ge0.true m.result m.ensures.0 in
     (put.0 ∙ ap length text, omega (arith, put.0, length_nineteen m.result m.ensures.1), put.1 ∙ ap (overwrite a.out.now a.at) text)
 
 pub put_digits-k-requires : goal.put_digits-k-requires
@@ -29,13 +29,13 @@ overflow_add-result c = let m = c.magnitude-size in record { fits = omega (arith
 
 pub returns : goal.returns
 returns c =
-    let start = c in let a = c.args in
+    let a = c.args in
     let m = c.magnitude-size in
     let put = c.put_digits-k.ensures in
     let few : length (decimal m.result) ≤ 19 = length_nineteen m.result m.ensures.1 in
-    let room : a.at + 20 ≤ length a.out.now = start.requires in
+    let room : a.at + 20 ≤ length a.out.now = c.requires in
     let next : a.at + 1 ≡ suc a.at = omega arith in
-    let text : minus ∷ decimal m.result ≡ signed_decimal a.n = lower_text a.n start.ranges.n c.if-n-ge0.false m.result m.ensures.0 in (
+    let text : minus ∷ decimal m.result ≡ signed_decimal a.n = lower_text a.n c.ranges.n c.if-n-ge0.false m.result m.ensures.0 in (
       omega (arith, put.0, ap length text),
       omega (arith, put.0),
       ap (λ (l : List ℕ). set l a.at minus) (put.1 ∙ ap (λ (k : ℕ). overwrite a.out.now k (decimal m.result)) next)

@@ -18,8 +18,8 @@ returns-then-refused-eq-MOST_COUNT c =
 
 pub returns : goal.returns
 returns c =
-    let c₁ = c in let c₀ = c in let a = c.args in
+    let a = c.args in
     let last = c.put_last-n in
     let total = c.put_total in
     cut_written a.out.now (numbered a.lines (Line.refused 19 ∷ [])) (total_text (a.lines + 1) (a.refused + 1)) last.result total.result last.new.out total.new.out
-    (in_cut (length a.out.now) a.lines a.refused c₀.requires c₁.if-lines-eq-MOST_COUNT.false c₁.if-refused-eq-MOST_COUNT.false) c₀.requires last.ensures total.ensures
+    (in_cut (length a.out.now) a.lines a.refused c.requires c.if-lines-eq-MOST_COUNT.false c.if-refused-eq-MOST_COUNT.false) c.requires last.ensures total.ensures

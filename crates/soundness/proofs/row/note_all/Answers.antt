@@ -16,8 +16,8 @@ loop-i-init c =
 pub note-requires : goal.note-requires
 note-requires c =
     let loop = c.loop-i in
-    let start = c in let next : loop.i - 1 + 1 ≡ loop.i = omega (arith, c.loop-i-test.true) in
-    (start.requires.0, omega (arith, c.loop-i-test.true, loop.invariant.0), subst (λ (n : ℕ). Indexed start.args.table.now loop.row n) (sym next) loop.invariant.1)
+    let next : loop.i - 1 + 1 ≡ loop.i = omega (arith, c.loop-i-test.true) in
+    (c.requires.0, omega (arith, c.loop-i-test.true, loop.invariant.0), subst (λ (n : ℕ). Indexed c.args.table.now loop.row n) (sym next) loop.invariant.1)
 
 pub returns-then-not-note : goal.returns-then-not-note
 returns-then-not-note c = noted_wrong (c.note.ensures.wrong c.if-not-note.true)
@@ -32,11 +32,11 @@ loop-i-preserved c =
 
 pub shape_of-row : goal.shape_of-row
 shape_of-row c =
-    let start = c in let loop = c.loop-i in
-    loop.invariant.1.size ∙ sym (blank start.args.table.now).size ∙ sym (ap length start.requires.1)
+    let loop = c.loop-i in
+    loop.invariant.1.size ∙ sym (blank c.args.table.now).size ∙ sym (ap length c.requires.1)
 
 pub returns : goal.returns
 returns c =
     let loop = c.loop-i in
-    let start = c in let all : loop.i ≡ 0 = omega (arith, c.loop-i-test.false) in
-    noted_right (subst (λ (n : ℕ). Indexed start.args.table.now loop.row n) all loop.invariant.1)
+    let all : loop.i ≡ 0 = omega (arith, c.loop-i-test.false) in
+    noted_right (subst (λ (n : ℕ). Indexed c.args.table.now loop.row n) all loop.invariant.1)

@@ -9,15 +9,15 @@ use Rattle.soundness.proofs.wiring.is_joined_to.Goals as goal
 pub returns-then-i-lt-PLACES : goal.returns-then-i-lt-PLACES
 unfolding record_at
 returns-then-i-lt-PLACES c =
-    let start = c in let a = c.args in
+    let a = c.args in
     let find = c.place_in-i in
     let at = c.place_at in
-    let is = find.ensures ∙ row_found a.table.now a.row.now start.requires.0 start.requires.1 a.port start.requires.2 in
-    c.joined_to.ensures ∙ look_there (is_joined_to a.pair) a.table.now start.requires.0 a.port find.result is at.result.now c.if-i-lt-PLACES.true at.ensures.0
+    let is = find.ensures ∙ row_found a.table.now a.row.now c.requires.0 c.requires.1 a.port c.requires.2 in
+    c.joined_to.ensures ∙ look_there (is_joined_to a.pair) a.table.now c.requires.0 a.port find.result is at.result.now c.if-i-lt-PLACES.true at.ensures.0
 
 pub returns-else-i-lt-PLACES : goal.returns-else-i-lt-PLACES
 returns-else-i-lt-PLACES c =
-    let start = c in let a = c.args in
+    let a = c.args in
     let find = c.place_in-i in
-    let is = find.ensures ∙ row_found a.table.now a.row.now start.requires.0 start.requires.1 a.port start.requires.2 in
-    le-ltb _ _ c.if-i-lt-PLACES.false ∙ look_nowhere (is_joined_to a.pair) a.table.now start.requires.0 a.port find.result is c.if-i-lt-PLACES.false
+    let is = find.ensures ∙ row_found a.table.now a.row.now c.requires.0 c.requires.1 a.port c.requires.2 in
+    le-ltb _ _ c.if-i-lt-PLACES.false ∙ look_nowhere (is_joined_to a.pair) a.table.now c.requires.0 a.port find.result is c.if-i-lt-PLACES.false

@@ -8,15 +8,15 @@ use Rattle.soundness.proofs.wiring.virtual_fits.Goals as goal
 
 pub is_joined_to-requires : goal.is_joined_to-requires
 is_joined_to-requires c =
-    let start = c in let a = c.args in
+    let a = c.args in
     let low = and_left (ltb a.first port_count && ltb a.second port_count) _ c.if-first-second.true in
-    (start.requires.0, start.requires.1, ltb-true a.first port_count (and_left (ltb a.first port_count) (ltb a.second port_count) low))
+    (c.requires.0, c.requires.1, ltb-true a.first port_count (and_left (ltb a.first port_count) (ltb a.second port_count) low))
 
 pub is_joined_to-requires-then-first-second : goal.is_joined_to-requires-then-first-second
 is_joined_to-requires-then-first-second c =
-    let start = c in let a = c.args in
+    let a = c.args in
     let low = and_left (ltb a.first port_count && ltb a.second port_count) _ c.if-first-second.true in
-    (start.requires.0, start.requires.1, ltb-true a.second port_count (and_right (ltb a.first port_count) (ltb a.second port_count) low))
+    (c.requires.0, c.requires.1, ltb-true a.second port_count (and_right (ltb a.first port_count) (ltb a.second port_count) low))
 
 pub returns-then-first-second : goal.returns-then-first-second
 returns-then-first-second c = both_pass c.if-first-second.true c.is_joined_to.ensures c.is_joined_to-then-first-second.ensures

@@ -122,17 +122,17 @@ pub returns-in-SignedByte : goal.returns-in-SignedByte
 unfolding slot_bytes
 returns-in-SignedByte c =
     let a = c.args in
-    let told = c in let signed = to_z-of_z {w = w8} {z = told.in-SignedByte.value} (record { sfits = search rules }) in
+    let signed = to_z-of_z {w = w8} {z = c.in-SignedByte.value} (record { sfits = search rules }) in
     let bits = c.i8_bits.ensures ∙ ap (of_integer 1) signed in
-    overwrite_at _ _ a.out.now a.at _ told.in-SignedByte.is (low_at a.out.now a.at 1 bits c.put_low-in-SignedByte.ensures)
+    overwrite_at _ _ a.out.now a.at _ c.in-SignedByte.is (low_at a.out.now a.at 1 bits c.put_low-in-SignedByte.ensures)
 
 pub returns-in-SignedLong : goal.returns-in-SignedLong
 unfolding slot_bytes
 returns-in-SignedLong c =
     let a = c.args in
-    let told = c in let signed = to_z-of_z {w = w32} {z = told.in-SignedLong.value} (record { sfits = search rules }) in
+    let signed = to_z-of_z {w = w32} {z = c.in-SignedLong.value} (record { sfits = search rules }) in
     let bits = c.i32_bits.ensures ∙ ap (of_integer 4) signed in
-    overwrite_at _ _ a.out.now a.at _ told.in-SignedLong.is (low_at a.out.now a.at 4 bits c.put_low-in-SignedLong.ensures)
+    overwrite_at _ _ a.out.now a.at _ c.in-SignedLong.is (low_at a.out.now a.at 4 bits c.put_low-in-SignedLong.ensures)
 
 pub returns-in-HighFirst : goal.returns-in-HighFirst
 unfolding slot_bytes
@@ -174,14 +174,14 @@ pub returns-in-SignedSpeed : goal.returns-in-SignedSpeed
 unfolding slot_bytes
 returns-in-SignedSpeed c =
     let a = c.args in
-    let told = c in let signed = to_z-of_z {w = w8} {z = told.in-SignedSpeed.value} (record { sfits = search rules }) in
+    let signed = to_z-of_z {w = w8} {z = c.in-SignedSpeed.value} (record { sfits = search rules }) in
     let bits = c.i8_bits-in-SignedSpeed.ensures ∙ ap (of_integer 1) signed in
-    overwrite_at _ _ a.out.now a.at _ told.in-SignedSpeed.is (low_at a.out.now a.at 1 bits c.put_low-in-SignedSpeed.ensures)
+    overwrite_at _ _ a.out.now a.at _ c.in-SignedSpeed.is (low_at a.out.now a.at 1 bits c.put_low-in-SignedSpeed.ensures)
 
 pub returns-in-Degrees : goal.returns-in-Degrees
 unfolding slot_bytes
 returns-in-Degrees c =
     let a = c.args in
-    let told = c in let signed = to_z-of_z {w = w32} {z = told.in-Degrees.value} (record { sfits = search rules }) in
+    let signed = to_z-of_z {w = w32} {z = c.in-Degrees.value} (record { sfits = search rules }) in
     let bits = c.i32_bits-in-Degrees.ensures ∙ ap (of_integer 4) signed in
-    overwrite_at _ _ a.out.now a.at _ told.in-Degrees.is (low_at a.out.now a.at 4 bits c.put_low-in-Degrees.ensures)
+    overwrite_at _ _ a.out.now a.at _ c.in-Degrees.is (low_at a.out.now a.at 4 bits c.put_low-in-Degrees.ensures)
