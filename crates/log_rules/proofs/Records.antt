@@ -32,9 +32,9 @@ and_assoc : (a b c : Bool) → (a && (b && c)) ≡ ((a && b) && c)
 and_assoc true b c = refl
 and_assoc false b c = refl
 
-and-true : (a : Bool) → (a && true) ≡ a
-and-true true = refl
-and-true false = refl
+and_true : (a : Bool) → (a && true) ≡ a
+and_true true = refl
+and_true false = refl
 
 -- so many bytes are looked at; the number found is 0 where they are
 pub record Looked (s : List ℕ) (found i : ℕ) : Type 0 where
@@ -57,7 +57,7 @@ looked_one {s} {found} {i} p h =
 
 pub looked_all : {s : List ℕ} {found i : ℕ} → Looked s found i → length s ≤ i → eqb found 0 ≡ all_zero s
 looked_all {s} {found} {i} p h =
-    sym (and-true (eqb found 0)) ∙ sym (ap (λ (l : List ℕ). eqb found 0 && all_zero l) (drop_of_length-le s {i = i} h)) ∙ p.same
+    sym (and_true (eqb found 0)) ∙ sym (ap (λ (l : List ℕ). eqb found 0 && all_zero l) (drop_of_length-le s {i = i} h)) ∙ p.same
 
 -- ---- the message
 

@@ -12,20 +12,20 @@ use Rattle.protocol.specs.Decode.{accepted, refused, wrong_size, size_fits, deco
 use Rattle.hub_messages.specs.Runs.{wrong_index}
 use Rattle.hub_messages.proofs.Runs.{rest_wrong, rest_right}
 
-and-false : (a : Bool) → (a && false) ≡ false
-and-false true = refl
-and-false false = refl
+and_false : (a : Bool) → (a && false) ≡ false
+and_false true = refl
+and_false false = refl
 
 -- ---- sizes
 
 module _ (size : ℕ) where
   pub too_few : size < 5 → size_fits Form.output_feedback size ≡ false
   unfolding layout
-  too_few h = rw (lt-leb 5 size h, and-false (eqb ((size - 3) % 2) 0))
+  too_few h = rw (lt-leb 5 size h, and_false (eqb ((size - 3) % 2) 0))
 
   pub too_many : 127 < size → size_fits Form.output_feedback size ≡ false
   unfolding layout
-  too_many h = rw (lt-leb size 127 h, and-false (eqb ((size - 3) % 2) 0 && leb 5 size))
+  too_many h = rw (lt-leb size 127 h, and_false (eqb ((size - 3) % 2) 0 && leb 5 size))
 
   pub half_a_pair : ((size - 3) % 2 ≡ 0 → ⊥) → size_fits Form.output_feedback size ≡ false
   unfolding layout

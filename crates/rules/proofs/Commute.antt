@@ -175,17 +175,17 @@ commute t s one two fits fits' a =
     let v : Answer Event = judged t one in
     let w : Answer Event = judged t two in
     let there = in_order t s one two fits fits' a in
-    let back-there = in_order t s two one fits' fits (swap one two a) in
+    let back_there = in_order t s two one fits' fits (swap one two a) in
     let swapped : after w (after v t) ≡ after v (after w t) =
     both t a.p a.q a.differ v w (only_to t one a.p a.first_tells) (only_to t two a.q a.second_tells)
     in
-    let same : cells_after (cells_after (cells_of t) one) two ≡ cells_after (cells_after (cells_of t) two) one = there.cells ∙ ap cells_of swapped ∙ sym back-there.cells in
+    let same : cells_after (cells_after (cells_of t) one) two ≡ cells_after (cells_after (cells_of t) two) one = there.cells ∙ ap cells_of swapped ∙ sym back_there.cells in
     record {
       table = same_table (cells_after (cells_after (cells_of t) one) two) (cells_after (cells_after (cells_of t) two) one) same;
-      first = back-there.second;
+      first = back_there.second;
       second = there.second;
       first_own = λ r. subst (KeepsOwn (cells_of t) (cells_after (cells_after (cells_of t) one) two) one) (a.first_is r) there.own;
-      second_own = λ r. subst (KeepsOwn (cells_of t) (cells_after (cells_after (cells_of t) one) two) two) (a.second_is r) (subst (λ (c : List ℕ). KeepsOwn (cells_of t) c two a.q) (sym same) back-there.own);
+      second_own = λ r. subst (KeepsOwn (cells_of t) (cells_after (cells_after (cells_of t) one) two) two) (a.second_is r) (subst (λ (c : List ℕ). KeepsOwn (cells_of t) c two a.q) (sym same) back_there.own);
     }
 
 -- ---- the ports of two messages

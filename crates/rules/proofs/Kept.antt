@@ -117,9 +117,9 @@ keeps (Attach p d) t o s fits ok =
 keeps (AttachVirtual p d a b) t o s fits ok =
     let fresh = virtual_by (view_of_table t p) (pair_test (view_of_table t) a b) (full_table t) ok in
     let good = good_pair t a b fresh.1 in
-    let three-fit = and_left (ltb p port_count && ltb d 65536 && ltb a port_count) (ltb b port_count) fits in
-    let two-fit = and_left (ltb p port_count && ltb d 65536) (ltb a port_count) three-fit in
-    sound_virtual t s p d a b fresh.2 fresh.0 good.one good.two good.apart (fit_bare p d (Virtual a b) (and_left (ltb p port_count) (ltb d 65536) two-fit) (and_right (ltb p port_count) (ltb d 65536) two-fit))
+    let three_fit = and_left (ltb p port_count && ltb d 65536 && ltb a port_count) (ltb b port_count) fits in
+    let two_fit = and_left (ltb p port_count && ltb d 65536) (ltb a port_count) three_fit in
+    sound_virtual t s p d a b fresh.2 fresh.0 good.one good.two good.apart (fit_bare p d (Virtual a b) (and_left (ltb p port_count) (ltb d 65536) two_fit) (and_right (ltb p port_count) (ltb d 65536) two_fit))
 keeps (Detach p) t o s fits ok = detach_known t s p (view_of_table t p) refl (wanted (view_of_table t p) ok)
 keeps (Value p) t o s fits ok = s
 keeps (Disconnect p) t o s fits ok = s

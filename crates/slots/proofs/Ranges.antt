@@ -63,9 +63,9 @@ signed_long : (z : ℤ) (rest : Bool) → mag z < 2147483648 → (in_range 4 z &
 signed_long (pos n) rest f = numbered n 2147483648 rest f
 signed_long (negsuc n) rest f = numbered n 2147483648 rest f
 
-and-true : (a b : Bool) → b ≡ true → (a && b) ≡ a
-and-true true b e = e
-and-true false b e = refl
+and_true : (a b : Bool) → b ≡ true → (a && b) ≡ a
+and_true true b e = e
+and_true false b e = refl
 
 pub tested : (s : Slot) (vs : List Val) → Is (row the_type) s vs → slot_fits s ≡ slot_test s
 unfolding slot_fits
@@ -80,7 +80,7 @@ tested (Slot'.Long v) vs g = numbered v 4294967296 true (owed the_type the_laws 
 tested (Slot'.SignedByte v) vs g = signed_byte v true (owed the_type the_laws (Slot'.SignedByte v) vs g).0.1
 tested (Slot'.SignedLong v) vs g = signed_long v true (owed the_type the_laws (Slot'.SignedLong v) vs g).0.1
 tested (Slot'.HighFirst v) vs g = refl
-tested (Slot'.Float x) vs g = and-true (is_finite x) (Ieee.fits binary32 x) (owed the_type the_laws (Slot'.Float x) vs g).0.1
+tested (Slot'.Float x) vs g = and_true (is_finite x) (Ieee.fits binary32 x) (owed the_type the_laws (Slot'.Float x) vs g).0.1
 tested Slot'.BootString vs g = refl
 tested Slot'.LockString vs g = refl
 tested (Slot'.StartByte v) vs g = numbered v 256 (start_byte v) (owed the_type the_laws (Slot'.StartByte v) vs g).0.1

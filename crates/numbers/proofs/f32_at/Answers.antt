@@ -18,17 +18,17 @@ the_nan nan e = refl
 the_nan (inf s) e = let z : ◌≡◌ {A = ℕ} 0 1 = cc in absurd (omega arith)
 the_nan (fin s m x) e = let z : ◌≡◌ {A = ℕ} 0 1 = cc in absurd (omega arith)
 
-above-is-nan : (n : ℕ) → 2139095040 < n % 2147483648 → of_bits binary32 n ≡ nan
-above-is-nan n h = the_nan (of_bits binary32 n) (sym (nan_bits_is binary32 n) ∙ nan_bits_above binary32 n ∙ lt-ltb _ _ h)
+above_is_nan : (n : ℕ) → 2139095040 < n % 2147483648 → of_bits binary32 n ≡ nan
+above_is_nan n h = the_nan (of_bits binary32 n) (sym (nan_bits_is binary32 n) ∙ nan_bits_above binary32 n ∙ lt-ltb _ _ h)
 
-not-above : (n : ℕ) → n % 2147483648 ≤ 2139095040 → T (not (nan_bits binary32 n))
-not-above n h = rw (nan_bits_above binary32 n, le-ltb _ _ h) tt
+not_above : (n : ℕ) → n % 2147483648 ≤ 2139095040 → T (not (nan_bits binary32 n))
+not_above n h = rw (nan_bits_above binary32 n, le-ltb _ _ h) tt
 
 pub returns-then-bits-gt2139095040 : goal.returns-then-bits-gt2139095040
-returns-then-bits-gt2139095040 c = divided ∙ sym (above-is-nan c.u32_at-bits.result c.if-bits-gt2139095040.true) ∙ ap (of_bits binary32) c.u32_at-bits.ensures
+returns-then-bits-gt2139095040 c = divided ∙ sym (above_is_nan c.u32_at-bits.result c.if-bits-gt2139095040.true) ∙ ap (of_bits binary32) c.u32_at-bits.ensures
 
 pub float_from_bits-result : goal.float_from_bits-result
-float_from_bits-result c = not-above c.u32_at-bits.result c.if-bits-gt2139095040.false
+float_from_bits-result c = not_above c.u32_at-bits.result c.if-bits-gt2139095040.false
 
 pub returns : goal.returns
 returns c = ap (of_bits binary32) c.u32_at-bits.ensures

@@ -49,6 +49,6 @@ returns c =
     let a = c.args in
     let widths = c.widths-end in
     let if1 = c.if-out-size in
-    let put-slots = c.put_slots in
+    let put_slots = c.put_slots in
     whole_answer a.slots a.«open».now widths.result widths.ensures.0 a.out.now _ if1.false
-    (c.put_bytes.ensures ∙ ap (λ (l : List ℕ). overwrite l (type_place + widths.result) a.«open».now) put-slots.ensures)
+    (c.put_bytes.ensures ∙ ap (λ (l : List ℕ). overwrite l (type_place + widths.result) a.«open».now) put_slots.ensures)

@@ -40,13 +40,13 @@ loop-i-preserved c =
     let a = c.args in
     let pre = c.requires in
     let loop = c.loop-i in
-    let put-slot = c.put_slot in
+    let put_slot = c.put_slot in
     let slots : List Slot = a.slots in
     let i : ℕ = loop.i in
     let size : c.width-at.result ≡ length (slot_bytes (get_or slots i Slot'.Nothing)) = c.width-at.ensures.0 in
     rw size
-    (put_one a.out.now slots Slot'.Nothing loop.out loop.at i put-slot.new.out loop.invariant
-    c.loop-i-test.true pre.0 (omega (arith, size, c.width-at.ensures.1)) pre.2 put-slot.ensures)
+    (put_one a.out.now slots Slot'.Nothing loop.out loop.at i put_slot.new.out loop.invariant
+    c.loop-i-test.true pre.0 (omega (arith, size, c.width-at.ensures.1)) pre.2 put_slot.ensures)
 
 pub shape_of-out : goal.shape_of-out
 shape_of-out c =

@@ -33,8 +33,8 @@ module _ (cells : List ℕ) (port i p : ℕ) (ok : sound cells ≡ true) (at : i
   here : told ≡ told_refusal (Combined p) (facts_at cells i)
   here = ap (told_refusal (Combined p)) (found cells (sound_length cells ok) port i at)
 
-  told-10 : i ≡ places → 10 ≡ told
-  told-10 e = sym (here ∙ ap (told_refusal (Combined p)) (ap (facts_at cells) e ∙ nowhere cells))
+  told_10 : i ≡ places → 10 ≡ told
+  told_10 e = sym (here ∙ ap (told_refusal (Combined p)) (ap (facts_at cells) e ∙ nowhere cells))
 
   module _ (most : i ≤ places) (other : i ≡ places → ⊥) where
     abbrev low : i < places
@@ -51,11 +51,11 @@ module _ (cells : List ℕ) (port i p : ℕ) (ok : sound cells ≡ true) (at : i
         (λ (k : eqb count 0 ≡ false). ap (takes_over p) (list_some cells i list_index (eqb-false count 0 k)) ∙ ap (pointers_fit p) (entries_length cells i list_index (list_small cells i ok low).few (sound_length cells ok) low (omega arith)))
         (which (eqb count 0))
 
-    told-by : cond (pointers_fit p count) 0 21 ≡ told
-    told-by = sym (here ∙ ap (told_refusal (Combined p)) (some_at cells i low) ∙ ap (λ (b : Bool). cond b 0 21) by_count)
+    told_by : cond (pointers_fit p count) 0 21 ≡ told
+    told_by = sym (here ∙ ap (told_refusal (Combined p)) (some_at cells i low) ∙ ap (λ (b : Bool). cond b 0 21) by_count)
 
 pub returns-then-place-eq-PLACES : goal.returns-then-place-eq-PLACES
-returns-then-place-eq-PLACES c = let a = c.args in told-10 a.table.now a.port c.find-place.result a.pointers c.requires c.find-place.ensures.1 c.if-place-eq-PLACES.true
+returns-then-place-eq-PLACES c = let a = c.args in told_10 a.table.now a.port c.find-place.result a.pointers c.requires c.find-place.ensures.1 c.if-place-eq-PLACES.true
 
 pub bounds-table-place : goal.bounds-table-place
 bounds-table-place c =
@@ -64,9 +64,9 @@ bounds-table-place c =
 pub returns-then-fit : goal.returns-then-fit
 returns-then-fit c =
     let a = c.args in
-    sym (ap (λ (b : Bool). cond b 0 21) (sym c.fit.ensures ∙ c.if-fit.true)) ∙ told-by a.table.now a.port c.find-place.result a.pointers c.requires c.find-place.ensures.1 c.find-place.ensures.0 c.if-place-eq-PLACES.false
+    sym (ap (λ (b : Bool). cond b 0 21) (sym c.fit.ensures ∙ c.if-fit.true)) ∙ told_by a.table.now a.port c.find-place.result a.pointers c.requires c.find-place.ensures.1 c.find-place.ensures.0 c.if-place-eq-PLACES.false
 
 pub returns-else-fit : goal.returns-else-fit
 returns-else-fit c =
     let a = c.args in
-    sym (ap (λ (b : Bool). cond b 0 21) (sym c.fit.ensures ∙ c.if-fit.false)) ∙ told-by a.table.now a.port c.find-place.result a.pointers c.requires c.find-place.ensures.1 c.find-place.ensures.0 c.if-place-eq-PLACES.false
+    sym (ap (λ (b : Bool). cond b 0 21) (sym c.fit.ensures ∙ c.if-fit.false)) ∙ told_by a.table.now a.port c.find-place.result a.pointers c.requires c.find-place.ensures.1 c.find-place.ensures.0 c.if-place-eq-PLACES.false
