@@ -1,7 +1,12 @@
 -- The one convention of all calls from C and Rust. A call is refused, and then nothing lent changes; or its answer stands in
 -- front of what was lent, and it tells how much of it was written.
-use Rattle.std.specs.Prelude.{ℕ, ◌+◌, ◌*◌, ◌≤◌, ◌<◌, ◌≡◌, cond, List, ◌++◌, ltb, length, drop}
-use Rattle.rules.specs.Answer.{Answer, refused, accepted}
+use Rattle.std.specs.Prelude.{ℕ, ◌+◌, ◌*◌, ◌≤◌, ◌<◌, ◌≡◌, cond, List, ◌++◌, ltb, length, drop, Result}
+use Rattle.protocol.specs.declared.refusal.Refusal.{Refusal}
+use Rattle.rules.specs.Answer.{Answer, refused, accepted, answered}
+
+-- the answer that a result of the code is, where it tells how much was written
+abbrev pub counted : Result ℕ Refusal → Answer ℕ
+counted = answered (λ n. n)
 
 -- as one number: a refusal's number above its place; accepted, how much was written
 abbrev pub call_number : Answer ℕ → ℕ
@@ -34,8 +39,11 @@ abbrev pub plain_number : Answer (Unit {0}) → ℕ
 plain_number a = call_number (mapped (λ u. 0) a)
 
 -- a call whose answer is a row: by what was lent for it
+abbrev pub row_count : List ℕ → Answer (List ℕ) → Answer ℕ
+row_count lent a = mapped length (in_room (length lent) length a)
+
 abbrev pub row_number : List ℕ → Answer (List ℕ) → ℕ
-row_number lent a = call_number (mapped length (in_room (length lent) length a))
+row_number lent a = call_number (row_count lent a)
 
 abbrev pub row_after : List ℕ → Answer (List ℕ) → List ℕ
 row_after lent a = lent_after lent (in_room (length lent) length a)

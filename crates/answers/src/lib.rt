@@ -2,41 +2,37 @@
 // lent.
 #![tactic(auto)]
 
-ghost use Rattle.std.specs.Prelude.{◌≡◌, ◌++◌, ◌≤◌, drop, length};
-ghost use Rattle.rules.specs.Answer.{accepted, refused};
-ghost use Rattle.answers.specs.Call.{call_number, row_after, row_number};
+ghost use Rattle.std.specs.Prelude.{◌≡◌};
+ghost use Rattle.rules.specs.Answer.{accepted, passed};
+ghost use Rattle.answers.specs.Call.{call_number, counted, plain_number, row_after, row_count};
 
-// Lent cells that are too few for an answer, or that are no message's own: a number that document 01
-// does not have.
-pub const UNFIT: u8 = 255;
+use protocol::Refusal;
 
-// A refusal as one number: its number above its place.
-pub fn refusal(number: u8, place: u16) -> u64
-    ensures { result ≡ call_number (refused number place) }
+// A call as one number: how much was written, or a refusal's number above its place.
+pub fn call_number(written: Result<usize, Refusal>) -> u64
+    ensures { result ≡ call_number (counted written) }
 {
-    number as u64 * 4294967296 + place as u64
+    match written {
+        Ok(count) => count as u64,
+        Err(r) => r.number() as u64 * 4294967296 + r.place() as u64,
+    }
 }
 
-// Puts a row in front of what stands behind it.
-fn put(cells: &mut [u64], row: &[u64])
-    requires { length row.now ≤ length cells.old }
-    ensures { cells.new ≡ row.now ++ drop (length row.now) cells.old }
+// A call that answers nothing but whether it was accepted, as one number.
+pub fn plain_number(outcome: Result<(), Refusal>) -> u64
+    ensures { result ≡ plain_number (passed outcome) }
 {
-    let mut i = 0;
-    while i < row.len() {
-        cells[i] = row[i];
-        i += 1;
-    }
+    call_number(outcome.map(|()| 0))
 }
 
 // An accepted call whose answer is a row: how many cells it has filled; 255 where there are fewer, of
 // which none changes.
-pub fn fill(cells: &mut [u64], row: &[u64]) -> u64
-    ensures { (result ≡ row_number cells.old (accepted row.now)) × (cells.new ≡ row_after cells.old (accepted row.now)) }
+pub fn fill(cells: &mut [u64], row: &[u64]) -> Result<usize, Refusal>
+    ensures { (counted result ≡ row_count cells.old (accepted row.now)) × (cells.new ≡ row_after cells.old (accepted row.now)) }
 {
     if cells.len() < row.len() {
-        return refusal(UNFIT, 0);
+        return Err(Refusal::Unfit);
     }
-    put(cells, row);
-    row.len() as u64
+    cells[..row.len()].copy_from_slice(row);
+    Ok(row.len())
 }

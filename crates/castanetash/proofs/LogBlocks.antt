@@ -1,26 +1,28 @@
 -- What the call on a block of a log answers, from what the block function gives in the part of the text that is lent to it.
-use Prim.Native.Nat.{ℕ, ◌+◌, ◌≤◌, ◌<◌}
+use Prim.Native.Nat.{ℕ, ◌+◌, ◌≤◌, ◌<◌, min}
 use native.Mathlib.Nat.{zero-add}
 use native.Mathlib.Omega.{arith}
 use mathlib.Core.Path.{◌≡◌, refl, sym, ◌∙◌, ap}
 use mathlib.Core.Bool.{Bool, true, false, cond}
 use mathlib.Core.List.{List, [], ◌∷◌, ◌++◌, append_assoc}
 use mathlib.Core.Logic.{⊎_elim}
-use borrow.Author.Tests.{lt-ltb, le-ltb}
+use borrow.Author.Tests.{lt-ltb, le-ltb, ltb-true, ltb-false}
 use lib.Dec.{ltb}
 use lib.ListN.{length, set, take, drop, take-append-drop}
 use lib.Seq.{length-take-le, drop-append-le}
 use Rattle.protocol.proofs.Tests.{which}
 use Rattle.protocol.specs.Overwrite.{overwrite}
+use Rattle.protocol.specs.Refusal.{number_of, place_of}
+use Rattle.protocol.specs.declared.refusal.Refusal.{Refusal}
+use Rattle.std.specs.Prelude.{Result, Ok, Err}
 use Rattle.rules.specs.Answer.{Answer, refused, accepted}
 use Rattle.rules.specs.Cells.{sound}
 use Rattle.log_rules.specs.Block.{block_records}
 use Rattle.log_rules.specs.Cutting.{Run, printed}
 use Rattle.table.specs.declared.block.Block.{Block}
-use Rattle.table.specs.declared.block.Block.TheVariants.{Done, Refused}
-use Rattle.table.specs.BlockAnswer.{Progress, answer_of, progress, block_answer, block_cells, block_text}
-use Rattle.answers.specs.Call.{mapped, in_room, call_number, lent_after}
-use Rattle.castanetash.specs.Answers.{text_room, run_before, totals_row, text_of, block_call, cells_if, cells_then}
+use Rattle.table.specs.BlockAnswer.{Progress, progress_of, answer_of, progress, block_answer, block_cells, block_text}
+use Rattle.answers.specs.Call.{mapped, in_room, lent_after}
+use Rattle.castanetash.specs.Answers.{most_text, text_room, run_before, totals_row, text_of, block_call, cells_if, cells_then}
 
 -- bytes put into the front of a part are put into the front of the whole
 whole_text : (s text : List ℕ) (q : ℕ) → q ≤ length text → length s ≤ q → overwrite (take q text) 0 s ++ drop q text ≡ s ++ drop (length s) text
@@ -36,6 +38,14 @@ both_stored : (totals : List ℕ) (a b : ℕ) → 2 ≤ length totals → set (s
 both_stored [] a b h = absurd (omega arith)
 both_stored (x ∷ []) a b h = absurd (omega arith)
 both_stored (x ∷ y ∷ rest) a b h = refl
+
+-- the room that is used
+pub room_is : (room : ℕ) → min room most_text ≡ text_room room
+room_is room =
+    ⊎_elim
+    (λ (b : ltb most_text room ≡ true). let much = ltb-true most_text room b in let least : min room most_text ≡ most_text = omega arith in least ∙ sym (ap (λ (x : Bool). cond x most_text room) b))
+    (λ (b : ltb most_text room ≡ false). let few = ltb-false most_text room b in let least : min room most_text ≡ room = omega arith in least ∙ sym (ap (λ (x : Bool). cond x most_text room) b))
+    (which (ltb most_text room))
 
 abbrev written_in : Answer Progress → ℕ
 written_in (refused n place) = 0
@@ -58,43 +68,43 @@ module _ (cells totals log text : List ℕ) where
   abbrev call : Answer Progress
   call = block_call cells totals log (length text)
 
-  abbrev Called : ℕ → List ℕ → List ℕ → List ℕ → Type 0
+  abbrev Called : Answer ℕ → List ℕ → List ℕ → List ℕ → Type 0
   Called n table' totals' text' =
-      (n ≡ call_number (mapped (λ (p : Progress). p.written) call))
+      (n ≡ mapped (λ (p : Progress). p.written) call)
       × (table' ≡ cells_then cells totals log (length text))
       × (totals' ≡ lent_after totals (mapped totals_row call))
       × (text' ≡ lent_after text (mapped (λ (p : Progress). text_of run (length text)) call))
 
-  called_by : (a : Answer Progress) → call ≡ a → (n : ℕ) (table' totals' text' : List ℕ)
-      → n ≡ call_number (mapped (λ (p : Progress). p.written) a)
+  called_by : (a : Answer Progress) → call ≡ a → (n : Answer ℕ) (table' totals' text' : List ℕ)
+      → n ≡ mapped (λ (p : Progress). p.written) a
       → table' ≡ cells_if cells (block_cells 128 run room) a
       → totals' ≡ lent_after totals (mapped totals_row a)
       → text' ≡ lent_after text (mapped (λ (p : Progress). text_of run (length text)) a)
       → Called n table' totals' text'
   unfolding cells_then
   called_by a e n table' totals' text' k l m o = (
-    k ∙ ap (λ (x : Answer Progress). call_number (mapped (λ (p : Progress). p.written) x)) (sym e),
+    k ∙ ap (mapped (λ (p : Progress). p.written)) (sym e),
     l ∙ ap (cells_if cells (block_cells 128 run room)) (sym e),
     m ∙ ap (λ (x : Answer Progress). lent_after totals (mapped totals_row x)) (sym e),
     o ∙ ap (λ (x : Answer Progress). lent_after text (mapped (λ (p : Progress). text_of run (length text)) x)) (sym e),
   )
 
-  refused_call : (n place : ℕ) → call ≡ refused n place → (r : ℕ) → r ≡ call_number (refused n place) → Called r cells totals text
+  refused_call : (n place : ℕ) → call ≡ refused n place → (r : Answer ℕ) → r ≡ refused n place → Called r cells totals text
   refused_call n place e r is = called_by (refused n place) e r cells totals text is refl refl refl
 
   -- ---- too few totals
 
-  pub few_called : length totals < 2 → (r : ℕ) → r ≡ call_number (cond (sound cells) (refused 255 0) (refused 9 0)) → Called r cells totals text
+  pub few_called : length totals < 2 → (r : Answer ℕ) → r ≡ cond (sound cells) (refused 255 0) (refused 9 0) → Called r cells totals text
   unfolding block_call block_answer
   few_called short r is =
       let x : ltb (length totals) 2 ≡ true = lt-ltb (length totals) 2 short in
       ⊎_elim
       (λ (s : sound cells ≡ true).
       refused_call 255 0 (ap (λ (b : Bool). in_room (length totals) (λ (p : Progress). length (totals_row p)) (cond b (accepted (progress 128 run (block_records 128 run room))) (refused 9 0))) s ∙ ap (λ (b : Bool). cond b (refused 255 0) (accepted (progress 128 run (block_records 128 run room)))) x) r
-      (is ∙ ap (λ (b : Bool). call_number (cond b (refused 255 0) (refused 9 0))) s))
+      (is ∙ ap (λ (b : Bool). cond b (refused 255 0) (refused 9 0)) s))
       (λ (s : sound cells ≡ false).
       refused_call 9 0 (ap (λ (b : Bool). in_room (length totals) (λ (p : Progress). length (totals_row p)) (cond b (accepted (progress 128 run (block_records 128 run room))) (refused 9 0))) s) r
-      (is ∙ ap (λ (b : Bool). call_number (cond b (refused 255 0) (refused 9 0))) s))
+      (is ∙ ap (λ (b : Bool). cond b (refused 255 0) (refused 9 0)) s))
       (which (sound cells))
 
   -- ---- by the block function
@@ -115,7 +125,7 @@ module _ (cells totals log text : List ℕ) where
   unfolding block_text
   text_done s part size = rw s (ap (λ (n : ℕ). overwrite part 0 (printed 128 (block_records 128 run n) run)) size)
 
-  module _ (q : ℕ) (is : q ≡ room) (le : q ≤ length text) (block : Block) (table' part' : List ℕ)
+  module _ (q : ℕ) (is : q ≡ room) (le : q ≤ length text) (block : Result Block Refusal) (table' part' : List ℕ)
       (given : answer_of block ≡ block_answer 128 run (length (take q text)))
       (table_is : table' ≡ block_cells 128 run (length (take q text)))
       (part-is : part' ≡ block_text 128 run (take q text))
@@ -126,9 +136,11 @@ module _ (cells totals log text : List ℕ) where
       same : answer_of block ≡ answer
       same = given ∙ ap (block_answer 128 run) size
 
-      pub refused_called : (n place : ℕ) → block ≡ Refused n place → (r : ℕ) → r ≡ call_number (refused n place) → Called r table' totals (part' ++ drop q text)
+      pub refused_called : (r : Refusal) → block ≡ Err r → Called (refused (number_of r) (place_of r)) table' totals (part' ++ drop q text)
       unfolding block_call
-      refused_called n place e r number =
+      refused_called r e =
+          let n : ℕ = number_of r in
+          let place : ℕ = place_of r in
           let not_taken : answer ≡ refused n place = sym same ∙ ap answer_of e in
           let unsound : sound cells ≡ false =
           ⊎_elim (λ (s : sound cells ≡ true). let z : ◌≡◌ {A = ℕ} 1 0 = ap taken? (sym (answer_if s) ∙ not_taken) in absurd (omega arith)) (λ (s : sound cells ≡ false). s) (which (sound cells))
@@ -136,20 +148,20 @@ module _ (cells totals log text : List ℕ) where
           let table_stays : table' ≡ cells = table_is ∙ cells_if_lem unsound (length (take q text)) refl in
           let text_stays : part' ++ drop q text ≡ text = ap (λ (l : List ℕ). l ++ drop q text) (part-is ∙ text_if unsound (take q text) refl) ∙ take-append-drop q text in
           let called : call ≡ refused n place = ap (in_room (length totals) (λ (p : Progress). length (totals_row p))) not_taken in
-          called_by (refused n place) called r table' totals (part' ++ drop q text) number table_stays refl text_stays
+          called_by (refused n place) called (refused n place) table' totals (part' ++ drop q text) refl table_stays refl text_stays
 
-      pub done_called : (taken written lines bad : ℕ) → block ≡ Done taken written lines bad → written ≤ length (take q text) → 2 ≤ length totals → Called written table' (set (set totals 0 lines) 1 bad) (part' ++ drop q text)
+      pub done_called : (b : Block) → block ≡ Ok b → b.written ≤ length (take q text) → 2 ≤ length totals → Called (accepted b.written) table' (set (set totals 0 b.totals.lines) 1 b.totals.refused) (part' ++ drop q text)
       unfolding block_call
-      done_called taken written lines bad e fits enough =
-          let p : Progress = record { taken = taken; written = written; lines = lines; refused = bad } in
+      done_called b e fits enough =
+          let p : Progress = progress_of b in
           let yes : answer ≡ accepted p = sym same ∙ ap answer_of e in
           let good : sound cells ≡ true =
           ⊎_elim (λ (s : sound cells ≡ true). s) (λ (s : sound cells ≡ false). let z : ◌≡◌ {A = ℕ} 0 1 = ap taken? (sym (answer_if s) ∙ yes) in absurd (omega arith)) (which (sound cells))
           in
           let line : List ℕ = text_of run (length text) in
-          let long : length line ≡ written = ap written_in (sym (answer_if good) ∙ yes) in
-          let called : call ≡ accepted p = ap (in_room (length totals) (λ (x : Progress). length (totals_row x))) yes ∙ ap (λ (b : Bool). cond b (refused 255 0) (accepted p)) (le-ltb (length totals) 2 enough) in
+          let long : length line ≡ b.written = ap written_in (sym (answer_if good) ∙ yes) in
+          let called : call ≡ accepted p = ap (in_room (length totals) (λ (x : Progress). length (totals_row x))) yes ∙ ap (λ (x : Bool). cond x (refused 255 0) (accepted p)) (le-ltb (length totals) 2 enough) in
           let text_is : part' ++ drop q text ≡ line ++ drop (length line) text =
           ap (λ (l : List ℕ). l ++ drop q text) (part-is ∙ text_done good (take q text) size) ∙ whole_text line text q le (omega (arith, long, fits, length-take-le q text le))
           in
-          called_by (accepted p) called written table' (set (set totals 0 lines) 1 bad) (part' ++ drop q text) refl (table_is ∙ ap (block_cells 128 run) size) (both_stored totals lines bad enough) text_is
+          called_by (accepted p) called (accepted b.written) table' (set (set totals 0 b.totals.lines) 1 b.totals.refused) (part' ++ drop q text) refl (table_is ∙ ap (block_cells 128 run) size) (both_stored totals b.totals.lines b.totals.refused enough) text_is

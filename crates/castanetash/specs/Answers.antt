@@ -1,8 +1,10 @@
 -- What each call gives, before it is held to the room that was lent for it.
-use Rattle.std.specs.Prelude.{ℕ, ◌≡◌, Bool, true, false, cond, List, [], ◌∷◌, ◌++◌, ltb, length, get_or}
+use Rattle.std.specs.Prelude.{ℕ, ◌≡◌, cond, List, [], ◌∷◌, ◌++◌, ltb, length, get_or, Result, Ok, Err}
 use Rattle.protocol.specs.Decode as Decode
 use Rattle.protocol.specs.Decode.{decode, open_part}
 use Rattle.protocol.specs.declared.Way.{Way}
+use Rattle.protocol.specs.declared.refusal.Refusal.{Refusal}
+use Rattle.protocol.specs.declared.refusal.Refusal.TheVariants.{NotFinite}
 use Rattle.message_rows.specs.Row.{accepted_row, open_start}
 use Rattle.rules.specs.Answer.{Answer, refused, accepted}
 use Rattle.rules.specs.Dataset.{Dataset}
@@ -38,8 +40,11 @@ dataset_rows (d ∷ ds) = dataset_row d ++ dataset_rows ds
 abbrev pub values_in_room : List ℕ → Answer (List Dataset) → Answer (List Dataset)
 values_in_room lent a = in_room (length lent) (λ ds. length (dataset_rows ds)) a
 
+abbrev pub values_count : List ℕ → Answer (List Dataset) → Answer ℕ
+values_count lent a = mapped length (values_in_room lent a)
+
 abbrev pub values_number : List ℕ → Answer (List Dataset) → ℕ
-values_number lent a = call_number (mapped length (values_in_room lent a))
+values_number lent a = call_number (values_count lent a)
 
 abbrev pub values_after : List ℕ → Answer (List Dataset) → List ℕ
 values_after lent a = lent_after lent (mapped dataset_rows (values_in_room lent a))
@@ -53,10 +58,10 @@ abbrev pub Given : Answer (List Dataset) → ℕ → Type 0
 Given (refused n place) count = ⊥
 Given (accepted ds) count = length ds ≡ count
 
--- where they are all finite; else 18
-abbrev pub AllOr18 : Bool → ℕ → Answer (List Dataset) → Type 0
-AllOr18 true count a = Given a count
-AllOr18 false count a = a ≡ refused 18 0
+-- so many where they are all finite; else 18
+abbrev pub AllOr18 : Result ℕ Refusal → Answer (List Dataset) → Type 0
+AllOr18 (Ok count) a = Given a count
+AllOr18 (Err r) a = (r ≡ NotFinite) × (a ≡ refused 18 0)
 
 -- ---- a block of a log: the totals before it are in two cells, and so are those after it
 

@@ -12,7 +12,6 @@ use hub_messages::firmware::{go_into_boot_mode, lock_memory, lock_status, lock_s
 use hub_messages::hub::{
     generic_error, hub_actions_down, hub_actions_up, hub_alerts_down, hub_alerts_up,
 };
-use hub_messages::refusal::refuse;
 use mode_messages::port_mode_information;
 use motor_messages::{output_feedback, port_output_command};
 use port_messages::{
@@ -20,28 +19,25 @@ use port_messages::{
     port_information_request, port_value, virtual_port_setup,
 };
 use property_messages::hub_properties;
-use protocol::{Message, Reading, Way};
+use protocol::{Message, Refusal, Way};
 
 // One message: refusals 1 to 7 in their order, or its form and fields.
-pub fn read(message: &[u8], way: Way) -> Reading
+#[tactic(auto, unfolding(protocol::specs::Decode::decode))]
+pub fn read(message: &[u8], way: Way) -> Result<Message, Refusal>
     ensures { answer_of result ≡ decode way message.now }
 {
-    if message.len() == 0 {
-        return refuse(1, 0);
+    if message.is_empty() {
+        return Err(Refusal::Empty);
     }
     let size = message[0];
     if 127 < size {
-        return refuse(2, 0);
+        return Err(Refusal::LongLength);
     }
-    if size as usize != message.len() {
-        return refuse(3, 0);
+    if usize::from(size) != message.len() || message.len() < 3 {
+        return Err(Refusal::WrongLength);
     }
-    if message.len() < 3 {
-        return refuse(3, 0);
-    }
-    let is_other_hub = message[1] != 0;
-    if is_other_hub {
-        return refuse(4, 1);
+    if message[1] != 0 {
+        return Err(Refusal::OtherHub);
     }
     match way {
         Way::Down => read_down(message),
@@ -50,12 +46,12 @@ pub fn read(message: &[u8], way: Way) -> Reading
 }
 
 // The types that go down.
-fn read_down(s: &[u8]) -> Reading
+#[tactic(auto, unfolding(protocol::specs::Decode::decode_way, protocol::specs::Decode::decode_type, protocol::specs::Types::types))]
+fn read_down(s: &[u8]) -> Result<Message, Refusal>
     requires { header ≤ length s.now }
     ensures { answer_of result ≡ decode_way Down s.now }
 {
-    let code = s[2];
-    match code {
+    match s[2] {
         0x01 => hub_properties(s, Way::Down),
         0x02 => hub_actions_down(s),
         0x03 => hub_alerts_down(s),
@@ -68,17 +64,17 @@ fn read_down(s: &[u8]) -> Reading
         0x42 => combined_format_setup(s),
         0x61 => virtual_port_setup(s),
         0x81 => port_output_command(s),
-        _ => refuse(5, 2),
+        _ => Err(Refusal::UnknownType),
     }
 }
 
 // The types that come up.
-fn read_up(s: &[u8]) -> Reading
+#[tactic(auto, unfolding(protocol::specs::Decode::decode_way, protocol::specs::Decode::decode_type, protocol::specs::Types::types))]
+fn read_up(s: &[u8]) -> Result<Message, Refusal>
     requires { header ≤ length s.now }
     ensures { answer_of result ≡ decode_way Up s.now }
 {
-    let code = s[2];
-    match code {
+    match s[2] {
         0x01 => hub_properties(s, Way::Up),
         0x02 => hub_actions_up(s),
         0x03 => hub_alerts_up(s),
@@ -92,22 +88,19 @@ fn read_up(s: &[u8]) -> Reading
         0x47 => input_format(s),
         0x48 => input_format_combined(s),
         0x82 => output_feedback(s),
-        _ => refuse(5, 2),
+        _ => Err(Refusal::UnknownType),
     }
 }
 
 // The open bytes of an accepted message (a name, symbol, text, value, feedback or list of entries): that
 // part of the caller's own message. Empty for any other message.
+#[tactic(auto, unfolding(protocol::specs::Decode::open_part))]
 pub fn open_part(message: &[u8], way: Way) -> &[u8]
     ensures { result.now ≡ open_part way message.now }
 {
-    let reading = read(message, way);
-    match reading {
-        Reading::Accepted(m) => tail(message, open_start(m, message.len())),
-        Reading::Refused {
-            number: _,
-            place: _,
-        } => &message[..0],
+    match read(message, way) {
+        Ok(m) => tail(message, open_start(m, message.len())),
+        Err(_) => &[],
     }
 }
 
@@ -115,33 +108,21 @@ pub fn open_part(message: &[u8], way: Way) -> &[u8]
 pub fn tail(s: &[u8], at: usize) -> &[u8]
     ensures { result.now ≡ drop at s.now }
 {
-    if at <= s.len() { &s[at..] } else { &s[..0] }
+    s.get(at..).unwrap_or(&[])
 }
 
 // Where the open bytes of a message start; nowhere, at its end, where its form has none.
+#[tactic(auto, unfolding(protocol::specs::Form::layout))]
 fn open_start(m: Message, size: usize) -> usize
     ensures { (s : List ℕ) → length s ≡ size → open_of s (accepted (form_of m) (values_of m)) ≡ drop result s }
 {
     match m {
-        Message::PropertyText {
-            property: _,
-            operation: _,
-        } => 5,
-        Message::ModeText {
-            port: _,
-            mode: _,
-            information: _,
-        } => 6,
-        Message::PortValue { port: _ } => 4,
+        Message::PropertyText { .. } => 5,
+        Message::PortValue { .. } => 4,
         Message::OutputFeedback => 3,
-        Message::ModeDatasets {
-            port: _,
-            combination: _,
-        } => 6,
-        Message::PortValueCombined {
-            port: _,
-            pointers: _,
-        } => 6,
+        Message::ModeText { .. }
+        | Message::ModeDatasets { .. }
+        | Message::PortValueCombined { .. } => 6,
         _ => size,
     }
 }

@@ -11,13 +11,12 @@ use rules::{Change, Effect, Format, Setup};
 fn action_effect(action: u8) -> Effect
     ensures { result ≡ action_effect action }
 {
-    if action < 0x30 {
-        return Effect::Nothing;
+    let empties = (0x30..=0x32).contains(&action);
+    if empties {
+        Effect::Empty
+    } else {
+        Effect::Nothing
     }
-    if 0x32 < action {
-        return Effect::Nothing;
-    }
-    Effect::Empty
 }
 
 // What a message with its experiment number is to the table.
@@ -28,12 +27,7 @@ pub fn effect_of(m: Message, experiment: u16) -> Effect
     match m {
         Message::HubAction { action } => action_effect(action),
         Message::Detached { port } => Effect::Detach { port },
-        Message::Attached {
-            port,
-            device,
-            hardware: _,
-            software: _,
-        } => Effect::Attach { port, device },
+        Message::Attached { port, device, .. } => Effect::Attach { port, device },
         Message::AttachedVirtual {
             port,
             device,
@@ -45,18 +39,17 @@ pub fn effect_of(m: Message, experiment: u16) -> Effect
             port_a,
             port_b,
         },
-        Message::PortInformationRequest {
-            port,
-            information: _,
-        } => Effect::ToPort {
-            port,
-            change: Change::Unchanged,
-        },
-        Message::ModeInformationRequest {
-            port,
-            mode: _,
-            information: _,
-        } => Effect::ToPort {
+        Message::PortInformationRequest { port, .. }
+        | Message::ModeInformationRequest { port, .. }
+        | Message::PortModes { port, .. }
+        | Message::PortCombinations { port, .. }
+        | Message::ModeText { port, .. }
+        | Message::ModeRange { port, .. }
+        | Message::ModeMapping { port, .. }
+        | Message::ModeBias { port, .. }
+        | Message::ModeCapabilities { port, .. }
+        | Message::GotoAbsolutePosition { port, .. }
+        | Message::CombinedSetup { port, .. } => Effect::ToPort {
             port,
             change: Change::Unchanged,
         },
@@ -75,65 +68,6 @@ pub fn effect_of(m: Message, experiment: u16) -> Effect
                 },
                 experiment,
             },
-        },
-        Message::PortModes {
-            port,
-            capabilities: _,
-            mode_count: _,
-            input_modes: _,
-            output_modes: _,
-        } => Effect::ToPort {
-            port,
-            change: Change::Unchanged,
-        },
-        Message::PortCombinations {
-            port,
-            combinations: _,
-        } => Effect::ToPort {
-            port,
-            change: Change::Unchanged,
-        },
-        Message::ModeText {
-            port,
-            mode: _,
-            information: _,
-        } => Effect::ToPort {
-            port,
-            change: Change::Unchanged,
-        },
-        Message::ModeRange {
-            port,
-            mode: _,
-            information: _,
-            lowest: _,
-            highest: _,
-        } => Effect::ToPort {
-            port,
-            change: Change::Unchanged,
-        },
-        Message::ModeMapping {
-            port,
-            mode: _,
-            mapping: _,
-        } => Effect::ToPort {
-            port,
-            change: Change::Unchanged,
-        },
-        Message::ModeBias {
-            port,
-            mode: _,
-            bias: _,
-        } => Effect::ToPort {
-            port,
-            change: Change::Unchanged,
-        },
-        Message::ModeCapabilities {
-            port,
-            mode: _,
-            bits: _,
-        } => Effect::ToPort {
-            port,
-            change: Change::Unchanged,
         },
         Message::ValueFormat {
             port,
@@ -172,64 +106,15 @@ pub fn effect_of(m: Message, experiment: u16) -> Effect
         },
         Message::VirtualDisconnect { port } => Effect::Disconnect { port },
         Message::VirtualConnect { port_a, port_b } => Effect::Connect { port_a, port_b },
-        Message::StartSpeedForDegrees {
-            port,
-            start: _,
-            degrees: _,
-            speed_left: _,
-            speed_right: _,
-            power: _,
-            end_state: _,
-            profile: _,
-        } => Effect::ToVirtual { port },
-        Message::GotoAbsolutePosition {
-            port,
-            start: _,
-            position: _,
-            speed: _,
-            power: _,
-            end_state: _,
-            profile: _,
-        } => Effect::ToPort {
-            port,
-            change: Change::Unchanged,
-        },
-        Message::GotoAbsolutePositions {
-            port,
-            start: _,
-            position_1: _,
-            position_2: _,
-            speed: _,
-            power: _,
-            end_state: _,
-            profile: _,
-        } => Effect::ToVirtual { port },
-        Message::PresetEncoders {
-            port,
-            start: _,
-            left: _,
-            right: _,
-        } => Effect::ToVirtual { port },
-        Message::CombinedSetup {
-            port,
-            sub_command: _,
-        } => Effect::ToPort {
-            port,
-            change: Change::Unchanged,
-        },
-        Message::ModeDatasets {
-            port,
-            combination: _,
-        } => Effect::ToPort {
+        Message::StartSpeedForDegrees { port, .. }
+        | Message::GotoAbsolutePositions { port, .. }
+        | Message::PresetEncoders { port, .. } => Effect::ToVirtual { port },
+        Message::ModeDatasets { port, .. } => Effect::ToPort {
             port,
             change: Change::Listed { experiment },
         },
         Message::PortValueCombined { port, pointers } => Effect::CombinedValue { port, pointers },
-        Message::InputFormatCombined {
-            port,
-            control: _,
-            pointers,
-        } => Effect::ToPort {
+        Message::InputFormatCombined { port, pointers, .. } => Effect::ToPort {
             port,
             change: Change::Combined { pointers },
         },

@@ -1,3 +1,2 @@
 pub mod Runs
-pub mod Feedback
-pub mod Entries
+pub mod FixedText

@@ -1,60 +1,48 @@
--- The index of a run's first wrong byte says whether there is one.
-use Prim.Native.Nat.{ℕ, zero, suc, ◌+◌, ◌-◌, ◌≤◌, ◌<◌}
+-- The first byte of an open run that is not as it must be, as a search through its indexes finds it.
+use Prim.Native.Nat.{ℕ, zero, suc, ◌+◌, ◌≤◌, ◌<◌}
 use native.Mathlib.Omega.{arith}
-use mathlib.Core.Path.{◌≡◌, refl, sym, ◌∙◌, ap}
-use mathlib.Core.Bool.{Bool, true, false, cond}
-use mathlib.Core.List.{List}
-use mathlib.Core.Option.{Option, none, some}
-use lib.ListN.{length, length-drop, take, drop}
-use lib.Seq.{take_all}
-use Rattle.protocol.specs.Form.{Run, any_bytes, items, wrong_from, wrong_byte}
-use Rattle.hub_messages.specs.Runs.{index_or, wrong_index}
+use mathlib.Core.Path.{◌≡◌, refl}
+use mathlib.Core.Bool.{Bool, true, false}
+use mathlib.Core.List.{List, [], ◌∷◌}
+use mathlib.Core.Option.{none, some}
+use mathlib.Core.Logic.{⊎_elim}
+use borrow.Author.Tests.{ltb-true, ltb-false}
+use lib.Dec.{eqb, ltb}
+use lib.ListN.{length}
+use Rattle.std.specs.Prelude.{Option, Some, None, MatchOption, IfSome}
+use Rattle.std.specs.List.{list_any}
+use Rattle.protocol.proofs.Tests.{which}
+use Rattle.protocol.specs.Rule.{one_of}
+use Rattle.protocol.specs.Form.{wrong_from}
 
--- a wrong byte is one of those that were looked at
-abbrev Inside : ℕ → Option ℕ → Type 0
-Inside size wrong = (index_or size wrong ≤ size) × (index_or size wrong ≡ size → wrong ≡ none)
+module _ (test : List ℕ → ℕ → Bool) (run : List ℕ) where
+  none_wrong : (n i : ℕ) → ((k : ℕ) → i ≤ k → k < i + n → test run k ≡ true) → wrong_from test run i n ≡ none
+  none_wrong zero i all = refl
+  none_wrong (suc n) i all = rw (all i (omega arith) (omega arith)) (none_wrong n (suc i) (λ k low high. all k (omega arith) (omega arith)))
 
-looked_at : (test : List ℕ → ℕ → Bool) (s : List ℕ) (i n size : ℕ) → i + n ≡ size → Inside size (wrong_from test s i n)
-looked_at test s i zero size h = (omega arith, λ k. refl)
-looked_at test s i (suc n) size h = go (test s i) (looked_at test s (suc i) n size (omega arith))
-  where
-    go : (b : Bool) → Inside size (wrong_from test s (suc i) n) → Inside size (cond b (wrong_from test s (suc i) n) (some i))
-    go true deeper = deeper
-    go false deeper = (omega arith, λ k. absurd (omega arith))
+  first_is : (n i at : ℕ) → i ≤ at → at < i + n → ((k : ℕ) → i ≤ k → k < at → test run k ≡ true) → test run at ≡ false → wrong_from test run i n ≡ some at
+  first_is zero i at low high all e = absurd (omega arith)
+  first_is (suc n) i at low high all e =
+      ⊎_elim
+      (λ (before : ltb i at ≡ true).
+      let less : i < at = ltb-true i at before in
+      rw (all i (omega arith) less) (first_is n (suc i) at less (omega arith) (λ k near far. all k (omega arith) far) e))
+      (λ (here : ltb i at ≡ false).
+      let same : at ≡ i = omega (arith, ltb-false i at here) in
+      let wrong = rw same at e in
+      rw (wrong, same))
+      (which (ltb i at))
 
-inside : (run : Run) (s : List ℕ) → Inside (length s) (wrong_byte run s)
-inside any_bytes s = (omega arith, λ k. refl)
-inside (items step test) s = looked_at test s 0 (length s) (length s) (omega arith)
+  -- what a search through all indexes finds: none at which the test fails, or the first
+  pub record Found (r : Option ℕ) : Type 0 where
+    pub first : MatchOption r (wrong_from test run 0 (length run) ≡ none) (λ i. wrong_from test run 0 (length run) ≡ some i)
+    pub inside : IfSome r (λ i. i < length run)
 
-module _ (run : Run) (s : List ℕ) where
-  pub index_few : wrong_index run s ≤ length s
-  unfolding wrong_index
-  index_few = (inside run s).0
+  pub found : (r : Option ℕ) → MatchOption r ((k : ℕ) → 0 ≤ k → k < length run → test run k ≡ true) (λ i. (0 ≤ i) × (i < length run) × (test run i ≡ false) × ((k : ℕ) → 0 ≤ k → k < i → test run k ≡ true)) → Found r
+  found None all = record { first = none_wrong (length run) 0 (λ k low high. all k low (omega arith)); inside = tt }
+  found (Some i) is = record { first = first_is (length run) 0 i is.0 (omega (arith, is.1)) is.3 is.2; inside = is.1 }
 
-  pub all_right : wrong_index run s ≡ length s → wrong_byte run s ≡ none
-  unfolding wrong_index
-  all_right e = (inside run s).1 e
-
-  pub one_wrong : wrong_index run s < length s → wrong_byte run s ≡ some (wrong_index run s)
-  unfolding wrong_index
-  one_wrong h = go (wrong_byte run s) h
-    where
-      go : (wrong : Option ℕ) → index_or (length s) wrong < length s → wrong ≡ some (index_or (length s) wrong)
-      go none k = absurd (omega arith)
-      go (some i) k = refl
-
--- a run that is the rest of a message: the index among its bytes
-module _ (run : Run) (s : List ℕ) (at i : ℕ) (is : i ≡ wrong_index run (take (length s - at) (drop at s))) where
-  index : i ≡ wrong_index run (drop at s)
-  index = is ∙ ap (wrong_index run) (take_all (length s - at) (drop at s) (rw length-drop (omega arith)))
-
-  pub rest_wrong : i < length s - at → wrong_byte run (drop at s) ≡ some i
-  rest_wrong h =
-      let less : wrong_index run (drop at s) < length (drop at s) = rw (length-drop, ← index) h in
-      one_wrong run (drop at s) less ∙ ap some (sym index)
-
-  pub rest_right : length s - at ≤ i → wrong_byte run (drop at s) ≡ none
-  rest_right h =
-      let few : wrong_index run (drop at s) ≤ length (drop at s) = index_few run (drop at s) in
-      let size : length (drop at s) ≡ length s - at = length-drop at s in
-      all_right run (drop at s) (omega (arith, index))
+-- a byte among others
+pub one_of_any : (bytes : List ℕ) (byte : ℕ) → one_of bytes byte ≡ list_any (λ b. eqb b byte) bytes
+one_of_any [] byte = refl
+one_of_any (b ∷ bs) byte = grind (arith, one_of_any bs byte)

@@ -1,9 +1,8 @@
 // Reading the messages on the hub itself, 0x02, 0x03, 0x05 and 0x10 to 0x13, and what all readers
-// share: the refusals, the tests of a value's list and the hub properties.
+// share: the tests of a value's list and the hub properties.
 #![tactic(auto)]
 
 pub mod firmware;
 pub mod hub;
 pub mod property;
-pub mod refusal;
 pub mod rule;

@@ -1,10 +1,9 @@
 // Hub properties: which operation each permits, and the bounds of their payloads. Reading and
 // writing share it.
-ghost use Rattle.std.specs.Prelude.{◌≡◌, ◌≤◌};
+ghost use Rattle.std.specs.Prelude.{◌≡◌, ◌≤◌, ◌↔◌, IsOk, IfErr};
 ghost use Rattle.protocol.specs.Properties as Properties;
 
-use crate::rule::between;
-use protocol::Way;
+use protocol::{Refusal, Way};
 
 // The operations that each hub property (1 to 15) permits, a byte of bits for each: bit 0 is Set, bit 1
 // Enable, bit 2 Disable, bit 3 Reset, bit 4 Request and bit 5 Update.
@@ -38,57 +37,49 @@ fn goes(way: Way, operation: u8) -> bool
     ensures { result ≡ Properties.goes way operation }
 {
     match way {
-        Way::Down => {
-            if operation < 1 {
-                return false;
-            }
-            operation <= 5
-        }
+        Way::Down => (1..=5).contains(&operation),
         Way::Up => operation == 6,
     }
 }
 
+#[tactic(auto, unfolding(protocol::specs::Properties::allowed))]
 fn allowed(way: Way, property: u8, operation: u8) -> bool
     requires { (1 ≤ property) × (property ≤ 15) }
     ensures { result ≡ Properties.allowed way property operation }
 {
-    if goes(way, operation) {
-        permits(property as usize, operation as usize)
-    } else {
-        false
-    }
+    goes(way, operation) && permits(property as usize, operation as usize)
 }
 
 // Set and Update carry the payload.
+#[tactic(auto, unfolding(protocol::specs::Properties::carries))]
 pub fn carries(operation: u8) -> bool
     ensures { result ≡ Properties.carries operation }
 {
-    if operation == 1 {
-        return true;
-    }
-    operation == 6
+    matches!(operation, 1 | 6)
 }
 
-// The place of the first selector that is outside its list; 0 where neither is.
-pub fn outside_selector(way: Way, property: u8, operation: u8) -> u16
-    ensures { result ≡ Properties.outside_selector way property operation }
+// Whether both selectors are in their lists, or the refusal at the first that is not.
+#[tactic(auto, unfolding(protocol::specs::Properties::outside_selector))]
+pub fn outside_selector(way: Way, property: u8, operation: u8) -> Result<(), Refusal>
+    ensures ok { IsOk result ↔ (Properties.outside_selector way property operation ≡ 0) }
+    ensures err { IfErr result (λ e. e ≡ Refusal.OutsideList (Properties.outside_selector way property operation)) }
 {
-    if !between(1, property, 15) {
-        return 3;
+    if !(1..=15).contains(&property) {
+        return Err(Refusal::OutsideList { place: 3 });
     }
     if !allowed(way, property, operation) {
-        return 4;
+        return Err(Refusal::OutsideList { place: 4 });
     }
-    0
+    Ok(())
 }
 
 // The greatest value of a one-byte payload.
+#[tactic(auto, unfolding(protocol::specs::Properties::greatest))]
 pub fn greatest(property: u8) -> u8
     ensures { result ≡ Properties.greatest property }
 {
     match property {
-        2 => 1,
-        7 => 1,
+        2 | 7 => 1,
         6 => 100,
         15 => 8,
         _ => 255,

@@ -1,13 +1,11 @@
 -- Text put over the bytes of an output where there is room, piece after piece.
 use Prim.Native.Nat.{ℕ, suc, ◌+◌, ◌≤◌, ◌<◌}
 use native.Mathlib.Nat.{add-zero}
-use native.Mathlib.Numerals.{add-one}
 use native.Mathlib.Omega.{arith}
 use mathlib.Core.Path.{◌≡◌, sym, ◌∙◌, ap}
 use mathlib.Core.Bool.{Bool, cond}
 use mathlib.Core.List.{List, [], ◌∷◌, ◌++◌}
-use lib.ListN.{length, get_or, set, take, length-append}
-use lib.Seq.{take-suc, take_all}
+use lib.ListN.{length, set, length-append}
 use borrow.Author.Tests.{le-leb, lt-leb}
 use Rattle.protocol.specs.Overwrite.{overwrite}
 use Rattle.protocol.proofs.Overwrite.{overwrite_length, overwrite_nothing, overwrite_then, overwrite_before}
@@ -54,31 +52,3 @@ module _ {d : List ℕ} {at : ℕ} {s out : List ℕ} {end : ℕ} (p : Filled d 
         place = omega (arith, p.place, length-append s t);
         room = h;
       }
-
--- ---- bytes copied one by one: so many are there
-
-pub record Copied (d : List ℕ) (at : ℕ) (s out : List ℕ) (i : ℕ) : Type 0 where
-  pub inside : i ≤ length s
-  pub filled : Filled d at (take i s) out (at + i)
-  pub whole : at + length s ≤ length d
-
-pub copied_none : (d : List ℕ) (at : ℕ) (s : List ℕ) → at + length s ≤ length d → Copied d at s d 0
-copied_none d at s h = record { inside = omega arith; filled = rw (add-zero at) (filled_none d at (omega arith)); whole = h }
-
-module _ {d : List ℕ} {at : ℕ} {s out : List ℕ} {i : ℕ} (p : Copied d at s out i) where
-  pub copied_room : i < length s → at + i < length out
-  copied_room h = omega (arith, p.whole, filled_length p.filled)
-
-  pub copied_one : i < length s → Copied d at s (set out (at + i) (get_or s i 0)) (i + 1)
-  copied_one h =
-      let b : ℕ = get_or s i 0 in
-      let long : length out ≡ length d = filled_length p.filled in
-      let more : take (i + 1) s ≡ take i s ++ (b ∷ []) = ap (λ (k : ℕ). take k s) (add-one i) ∙ take-suc s i 0 h in
-      record {
-        inside = omega arith;
-        filled = rw more (filled_more p.filled (b ∷ []) (if_room_byte out (at + i) b (omega (arith, p.whole))) (omega arith) (omega (arith, p.whole)));
-        whole = p.whole;
-      }
-
-  pub copied_all : length s ≤ i → out ≡ overwrite d at s
-  copied_all h = p.filled.done ∙ ap (overwrite d at) (take_all i s h)

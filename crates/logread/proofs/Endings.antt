@@ -14,8 +14,9 @@ use Rattle.log_rules.specs.Cutting.{Run, start, ending}
 use Rattle.log_rules.specs.Pieces.{after_pieces}
 use Rattle.log_rules.specs.Ending.{ending_in, ending_text, most_count}
 use Rattle.log_rules.proofs.Endings.{ending_of_run}
-use Rattle.logread.specs.declared.reading.Progress.{Progress}
-use Rattle.logread.specs.Reading.{Printable, some_lines, whole_ending, ending_of}
+use Rattle.logread.specs.declared.reading.LogReader.{LogReader}
+use Rattle.logread.specs.Printed.{Printable, some_lines, whole_ending}
+use Rattle.logread.specs.Reading.{ending_of, run_at}
 use Rattle.logread.proofs.Reached.{After}
 use Rattle.protocol.specs.Overwrite.{overwrite}
 use Rattle.log_rules.specs.OverwriteIfRoom.{overwrite_if_room}
@@ -39,28 +40,28 @@ ending_put d lines refused held {n} {out} size h e =
     ∙ ap (ending_in (length d) lines refused) (some_held held)
 
 -- where the program stands at the end of the input, what it prints is the ending of the log
-pub end_printable : {table input : List ℕ} {p : Progress} (room : ℕ) → After table input p → {text : List ℕ} → text ≡ ending_of room p → Printable text
+pub end_printable : {R O : Type 0} (p : LogReader R O) (room : ℕ) → After (run_at p) → {text : List ℕ} → text ≡ ending_of room p.held p.printer.totals → Printable text
 unfolding ending_in
-end_printable {table} {input} {p} room a {text} e = go (which none)
+end_printable p room a {text} e = go (which none)
   where
     r : Run
     r = after_pieces 128 start a.pieces
 
-    held : Bool
-    held = not (eqb p.held 0)
+    cut : Bool
+    cut = not (eqb p.held 0)
 
     -- nothing is printed
     none : Bool
-    none = ltb room 128 || (held && (eqb p.lines most_count || eqb p.refused most_count))
+    none = ltb room 128 || (cut && (eqb p.printer.totals.lines most_count || eqb p.printer.totals.refused most_count))
 
     size : length r.rest ≡ p.held
-    size = sym (ap (λ (x : Run). length x.rest) a.reached.run) ∙ length-take-le p.held input a.reached.most
+    size = sym (ap (λ (x : Run). length x.rest) a.reached) ∙ length-take-le p.held p.input p.within
 
-    same : ending_text p.lines p.refused held ≡ ending r
+    same : ending_text p.printer.totals.lines p.printer.totals.refused cut ≡ ending r
     same =
-        (λ i. ending_text (a.reached.run i).lines (a.reached.run i).refused (not (eqb (sym size i) 0)))
+        (λ i. ending_text (a.reached i).lines (a.reached i).refused (not (eqb (sym size i) 0)))
         ∙ sym (ending_of_run r)
 
     go : (none ≡ true) ⊎ (none ≡ false) → Printable text
-    go (inl t) = some_lines r 0 (e ∙ ap (λ (b : Bool). cond b [] (ending_text p.lines p.refused held)) t)
-    go (inr t) = whole_ending a.pieces (e ∙ ap (λ (b : Bool). cond b [] (ending_text p.lines p.refused held)) t ∙ same)
+    go (inl t) = some_lines r 0 (e ∙ ap (λ (b : Bool). cond b [] (ending_text p.printer.totals.lines p.printer.totals.refused cut)) t)
+    go (inr t) = whole_ending a.pieces (e ∙ ap (λ (b : Bool). cond b [] (ending_text p.printer.totals.lines p.printer.totals.refused cut)) t ∙ same)

@@ -1,5 +1,4 @@
 pub mod Blocks
-pub mod Bounds
 pub mod Endings
 pub mod Moving
 pub mod Reached

@@ -1,79 +1,62 @@
 -- What the functions of the program do to the run of a log: its table, its totals, and the input that was not worked through
 -- yet. What a read brings and what a write takes no contract can say.
-use Rattle.std.specs.Prelude.{ℕ, ◌+◌, ◌*◌, ◌≤◌, ◌≡◌, true, false, not, List, eqb, length, take}
+use Rattle.std.specs.Prelude.{ℕ, ◌*◌, ◌≤◌, ◌≡◌, Bool, true, false, not, List, eqb, length, take, Result, IfOk, OnOk}
 use Rattle.protocol.specs.Overwrite.{overwrite}
-use Rattle.rules.specs.Cells.{sound}
 use Rattle.log_rules.specs.Record.{record_size}
 use Rattle.log_rules.specs.Output.{records}
-use Rattle.log_rules.specs.Cutting.{Run, start, worked, printed, ending}
-use Rattle.log_rules.specs.Pieces.{with_more, all_worked, after_pieces}
+use Rattle.log_rules.specs.Cutting.{Run, worked, printed}
+use Rattle.log_rules.specs.Pieces.{with_more, all_worked}
 use Rattle.log_rules.specs.Block.{block_records}
 use Rattle.log_rules.specs.Ending.{ending_in}
-use Rattle.logread.specs.declared.reading.Fetched.{Fetched}
-use Rattle.logread.specs.declared.reading.Fetched.TheVariants.{Bytes, End, Failed}
-use Rattle.logread.specs.declared.reading.Progress.{Progress}
-use Rattle.logread.specs.declared.reading.Taken.{Taken}
+use Rattle.log_lines.specs.declared.totals.Totals.{Totals}
+use Rattle.logread.specs.declared.reading.Printer.{Printer}
+use Rattle.logread.specs.declared.reading.LogReader.{LogReader}
 
--- the run that the program stands at: the table, the totals, and the bytes that are held at the start of the buffer
-abbrev pub run_at : List ℕ → List ℕ → Progress → Run
-run_at table input p = record { cells = table; lines = p.lines; refused = p.refused; rest = take p.held input }
+-- the run at which a printer stands, with so much of the input behind it
+abbrev pub run_with : {O : Type 0} → Printer O → List ℕ → Run
+run_with p rest = record { cells = p.table; lines = p.totals.lines; refused = p.totals.refused; rest = rest }
 
--- what may be written: the lines of some records of some run, or the ending of a log that came in pieces. Of which run they
--- are, and that there are any, it does not say
-pub data Printable (text : List ℕ) : Type 0 where
-  some_lines : (r : Run) (n : ℕ) → text ≡ printed 128 n r → Printable text
-  whole_ending : (pieces : List (List ℕ)) → text ≡ ending (after_pieces 128 start pieces) → Printable text
+-- the run at which a reader stands: the bytes that are held at the start of the buffer are what is left
+abbrev pub run_at : {R O : Type 0} → LogReader R O → Run
+run_at reader = run_with reader.printer (take reader.held reader.input)
 
 -- so many records were worked through
-pub record Through (r : Run) (n : ℕ) (table : List ℕ) (t : Taken) : Type 0 where
-  pub taken : t.taken ≡ n * record_size 128
-  pub most : t.taken ≤ length r.rest
-  pub cells : table ≡ (worked 128 n r).cells
-  pub lines : t.lines ≡ (worked 128 n r).lines
-  pub refused : t.refused ≡ (worked 128 n r).refused
-  pub good : sound table ≡ true
+pub record Through {O : Type 0} (r : Run) (n : ℕ) (p : Printer O) : Type 0 where
+  pub most : n * record_size 128 ≤ length r.rest
+  pub cells : p.table ≡ (worked 128 n r).cells
+  pub lines : p.totals.lines ≡ (worked 128 n r).lines
+  pub refused : p.totals.refused ≡ (worked 128 n r).refused
 
 -- a block, as the output has room for it, and its lines at the start of the output
-pub record BlockDone (r : Run) (before after table : List ℕ) (t : Taken) : Type 0 where
-  pub through : Through r (block_records 128 r (length before)) table t
-  pub text : after ≡ overwrite before 0 (printed 128 (block_records 128 r (length before)) r)
+pub record BlockDone {O E : Type 0} (r : Run) (before : List ℕ) (p : Printer O) (answer : Result ℕ E) : Type 0 where
+  pub through : Through r (block_records 128 r (length before)) p
+  pub taken : IfOk answer (λ n. n ≡ block_records 128 r (length before) * record_size 128)
+  pub text : p.out ≡ overwrite before 0 (printed 128 (block_records 128 r (length before)) r)
 
 -- all whole records, unless it failed before
-pub record RecordsDone (r : Run) (table : List ℕ) (t : Taken) : Type 0 where
+pub record RecordsDone {O E : Type 0} (r : Run) (p : Printer O) (answer : Result ℕ E) : Type 0 where
   pub count : ℕ
-  pub through : Through r count table t
-  pub all : t.has_failed ≡ false → count ≡ records 128 r.rest
-
--- what one read gave is within the buffer
-abbrev pub fetched_fits : Fetched → ℕ → ℕ → Type 0
-fetched_fits (Bytes count) held size = held + count ≤ size
-fetched_fits End held size = Unit {0}
-fetched_fits Failed held size = Unit {0}
-
--- the program stands at a run, with a sound table
-pub record Reached (r : Run) (table input : List ℕ) (p : Progress) : Type 0 where
-  pub run : run_at table input p ≡ r
-  pub good : sound table ≡ true
-  pub most : p.held ≤ length input
-
--- the reading goes on only where nothing failed
-abbrev pub GoesOn : Progress → Type 0
-GoesOn p = p.is_open ≡ true → p.has_failed ≡ false
+  pub through : Through r count p
+  pub taken : IfOk answer (λ n. n ≡ count * record_size 128)
+  pub all : OnOk answer (count ≡ records 128 r.rest)
 
 -- all whole records of what is there were worked through, and the rest is held
-pub record TakenIn (r : Run) (table input : List ℕ) (p : Progress) : Type 0 where
-  pub on : GoesOn p
-  pub reached : p.has_failed ≡ false → Reached (all_worked 128 r) table input p
+abbrev pub TakenIn : {E : Type 0} → Run → Run → Result Unit E → Type 0
+TakenIn r after answer = OnOk answer (after ≡ all_worked 128 r)
+
+-- one piece came
+pub record Came (r after : Run) : Type 0 where
+  pub piece : List ℕ
+  pub worked_off : after ≡ all_worked 128 (with_more r piece)
 
 -- one piece came, or nothing at the end of the input
-pub data Went (r : Run) (table input : List ℕ) (p : Progress) : Type 0 where
-  ended : p.is_open ≡ false → Reached r table input p → Went r table input p
-  came : (s : List ℕ) → Reached (all_worked 128 (with_more r s)) table input p → Went r table input p
+abbrev pub Went : Run → Run → Bool → Type 0
+Went r after true = Came r after
+Went r after false = after ≡ r
 
-pub record Stepped (r : Run) (table input : List ℕ) (p : Progress) : Type 0 where
-  pub on : GoesOn p
-  pub went : p.has_failed ≡ false → Went r table input p
+abbrev pub Stepped : {E : Type 0} → Run → Run → Result Bool E → Type 0
+Stepped r after answer = IfOk answer (Went r after)
 
 -- what is printed at the end of the input, in an output of so many bytes
-abbrev pub ending_of : ℕ → Progress → List ℕ
-ending_of room p = ending_in room p.lines p.refused (not (eqb p.held 0))
+abbrev pub ending_of : ℕ → ℕ → Totals → List ℕ
+ending_of room held totals = ending_in room totals.lines totals.refused (not (eqb held 0))

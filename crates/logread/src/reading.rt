@@ -1,266 +1,156 @@
 // Reading a log piece by piece, and printing the lines of its records, block by block, and its ending.
-ghost use Rattle.std.specs.Prelude.{◌≡◌, true, ◌-◌, ◌+◌, ◌≤◌, ◌<◌, length, take, drop};
-ghost use Rattle.protocol.specs.Overwrite.{overwrite};
+ghost use Rattle.std.specs.Prelude.{◌≡◌, true, ◌≤◌, length, take, Result, Ok, Err};
 ghost use Rattle.rules.specs.Cells.{empty_cells, sound};
-ghost use Rattle.log_rules.specs.Block.{line_room};
-ghost use Rattle.log_rules.specs.Record.{record_size};
-ghost use Rattle.table.specs.BlockAnswer.{run_of};
-ghost use Rattle.logread.specs.Reading.{BlockDone, RecordsDone, Printable, Stepped, TakenIn, ending_of, fetched_fits};
+ghost use Rattle.log_rules.specs.Cutting.{start};
+ghost use Rattle.logread.specs.Printed.{Printable};
 
-use crate::words::{Streams, fail, tell};
+use crate::words::Failure;
 use log_lines::record::RECORD_SIZE;
-use log_lines::totals::put_ending;
+use log_lines::totals::{Totals, put_ending};
+use rules::layout::TABLE_SIZE;
 use std::io::{Read, Write};
-use table::block::Block;
-use table::read_block;
+use table::{empty, read_block};
 
-// How far the reading is.
-#[derive(Clone, Copy)]
-struct Progress {
-    // Bytes of the input that were not worked through yet; they stand at the start of the buffer.
+// How much is read at once, and how much text is printed at once.
+const LARGE: usize = 65536;
+
+// Prints the lines of records, by a table that follows them.
+#[derive(Drop)]
+struct Printer<O> {
+    output: O,
+    out: [u8; LARGE],
+    table: [u32; TABLE_SIZE],
+    totals: Totals,
+    ghost is_sound: { sound table ≡ true },
+}
+
+// Reads a log.
+#[derive(Drop)]
+pub(crate) struct LogReader<R, O> {
+    source: R,
+    input: [u8; LARGE],
+    // How many bytes at the start of `input` were not worked through yet.
     held: usize,
-    lines: u64,
-    refused: u64,
-    // Whether more of the input may come.
-    is_open: bool,
-    // Whether a read or a write failed, or there were more records than can be counted.
-    has_failed: bool,
-}
-
-// What was worked through: how many bytes, and the totals.
-#[derive(Clone, Copy)]
-struct Taken {
-    taken: usize,
-    lines: u64,
-    refused: u64,
-    // Whether a write failed, or there were more records than can be counted.
-    has_failed: bool,
-}
-
-// What one read gave.
-#[derive(Clone, Copy)]
-enum Fetched {
-    Bytes { count: usize },
-    End,
-    Failed,
+    printer: Printer<O>,
+    ghost within: { held ≤ length input },
 }
 
 // Writes text to standard output; it is lines of records, or the ending of a log.
-fn print<O: Write, E: Write>(streams: &mut Streams<O, E>, text: &[u8]) -> bool
+fn print<O: Write>(output: &mut O, text: &[u8]) -> Result<(), Failure>
     requires { Printable text.now }
 {
-    match streams.output.write_all(text) {
-        Ok(()) => true,
-        Err(error) => {
-            fail(&mut streams.errors, b"standard output", &error);
-            false
+    output.write_all(text).map_err(Failure::Output)
+}
+
+impl<O: Write> Printer<O> {
+    ghost use Rattle.logread.specs.Reading.{BlockDone, RecordsDone, run_with};
+
+    // With an empty table.
+    fn new(output: O) -> Self
+        ensures { (result.table ≡ empty_cells) × (result.totals.lines ≡ 0) × (result.totals.refused ≡ 0) }
+    {
+        let mut table = [0; TABLE_SIZE];
+        empty(&mut table).unwrap();
+        Printer {
+            output,
+            out: [0; LARGE],
+            table,
+            totals: Totals {
+                lines: 0,
+                refused: 0,
+            },
         }
     }
-}
 
-// Works through a block of whole records of a part of the input, and prints their lines.
-fn print_block<O: Write, E: Write>(
-    table: &mut [u32],
-    lines: u64,
-    refused: u64,
-    input: &[u8],
-    out: &mut [u8],
-    streams: &mut Streams<O, E>,
-) -> Taken
-    requires { sound table.old ≡ true }
-    ensures { BlockDone (run_of table.old lines refused input.now) out.old out.new table.new result }
-{
-    match read_block(table, lines, refused, input, out) {
-        Block::Done {
-            taken,
-            written,
-            lines,
-            refused,
-        } => Taken {
-            taken,
-            lines,
-            refused,
-            has_failed: !print(streams, &out[..written]),
-        },
-        Block::Refused {
-            number: _,
-            place: _,
-        } => Taken {
-            taken: 0,
-            lines,
-            refused,
-            has_failed: true,
-        },
+    // Works through a block of whole records of a part of the input, and prints their lines. Answers
+    // how many bytes it took; 0 is what was taken where the totals can count no more.
+    fn print_block(&mut self, input: &[u8]) -> Result<usize, Failure>
+        ensures { BlockDone (run_with self.old input.now) self.old.out self.new result }
+    {
+        let block = read_block(&mut self.table, self.totals, input, &mut self.out).unwrap();
+        self.totals = block.totals;
+        print(&mut self.output, &self.out[..block.written])?;
+        Ok(block.taken)
+    }
+
+    // The same with all whole records that are there, which may take more than one block. The loop
+    // goes over the input that is left, and counts no index.
+    fn print_records(&mut self, input: &[u8]) -> Result<usize, Failure>
+        ensures { RecordsDone (run_with self.old input.now) self.new result }
+    {
+        let mut rest = input;
+        while RECORD_SIZE <= rest.len() {
+            let taken = self.print_block(rest)?;
+            if taken == 0 {
+                return Err(Failure::TooManyRecords);
+            }
+            rest = &rest[taken..];
+        }
+        Ok(input.len() - rest.len())
     }
 }
 
-// The same with all whole records that are there, which may take more than one block.
-fn print_records<O: Write, E: Write>(
-    table: &mut [u32],
-    lines: u64,
-    refused: u64,
-    input: &[u8],
-    out: &mut [u8],
-    streams: &mut Streams<O, E>,
-) -> Taken
-    requires { (sound table.old ≡ true) × (line_room ≤ length out.old) }
-    ensures { RecordsDone (run_of table.old lines refused input.now) table.new result }
-{
-    let mut done = 0;
-    let mut count = lines;
-    let mut bad = refused;
-    while RECORD_SIZE <= input.len() - done {
-        let block = print_block(table, count, bad, &input[done..], out, streams);
-        done += block.taken;
-        count = block.lines;
-        bad = block.refused;
-        if block.has_failed {
-            return Taken {
-                taken: done,
-                lines: count,
-                refused: bad,
-                has_failed: true,
-            };
-        }
-        if block.taken == 0 {
-            tell(&mut streams.errors, b"too many records", b"");
-            return Taken {
-                taken: done,
-                lines: count,
-                refused: bad,
-                has_failed: true,
-            };
+impl<R: Read, O: Write> LogReader<R, O> {
+    ghost use Rattle.logread.specs.Reading.{Stepped, TakenIn, ending_of, run_at, run_with};
+
+    pub(crate) fn new(source: R, output: O) -> Self
+        ensures { run_at result ≡ start }
+    {
+        LogReader {
+            source,
+            input: [0; LARGE],
+            held: 0,
+            printer: Printer::new(output),
         }
     }
-    Taken {
-        taken: done,
-        lines: count,
-        refused: bad,
-        has_failed: false,
-    }
-}
 
-// Moves the bytes from one index to another to the start.
-fn keep(input: &mut [u8], from: usize, to: usize)
-    requires { (from ≤ to) × (to ≤ length input.old) }
-    ensures { input.new ≡ overwrite input.old 0 (take (to - from) (drop from input.old)) }
-{
-    let mut i = 0;
-    while i < to - from {
-        input[i] = input[from + i];
-        i += 1;
+    // Prints the lines of all whole records before an index, and keeps what is left of a record.
+    fn take_in(&mut self, end: usize) -> Result<(), Failure>
+        requires { end ≤ length self.old.input }
+        ensures { TakenIn (run_with self.old.printer (take end self.old.input)) (run_at self.new) result }
+    {
+        let taken = self.printer.print_records(&self.input[..end])?;
+        self.input.copy_within(taken..end, 0);
+        self.held = end - taken;
+        Ok(())
     }
-}
 
-// Reads once, behind the bytes that are held.
-fn fetch<R: Read, E: Write>(
-    input: &mut [u8],
-    held: usize,
-    source: &mut R,
-    name: &[u8],
-    errors: &mut E,
-) -> Fetched
-    requires { held ≤ length input.old }
-    ensures { (take held input.new ≡ take held input.old) × fetched_fits result held (length input.old) }
-{
-    match source.read(&mut input[held..]) {
-        Ok(0) => Fetched::End,
-        Ok(count) => Fetched::Bytes { count },
-        Err(error) => {
-            fail(errors, name, &error);
-            Fetched::Failed
+    // One piece of the input: reads once, and prints the lines of all records that are whole now.
+    // Answers whether anything came, which is not so at the end of the input.
+    fn step(&mut self) -> Result<bool, Failure>
+        ensures { Stepped (run_at self.old) (run_at self.new) result }
+    {
+        let count = self
+            .source
+            .read(&mut self.input[self.held..])
+            .map_err(Failure::Input)?;
+        if count == 0 {
+            return Ok(false);
         }
+        self.take_in(self.held + count)?;
+        Ok(true)
     }
-}
 
-// Prints the lines of all whole records before an index, and keeps what is left of a record.
-fn take_in<O: Write, E: Write>(
-    table: &mut [u32],
-    input: &mut [u8],
-    out: &mut [u8],
-    p: Progress,
-    end: usize,
-    streams: &mut Streams<O, E>,
-) -> Progress
-    requires { (sound table.old ≡ true) × (line_room ≤ length out.old) × (end ≤ length input.old) }
-    ensures { TakenIn (run_of table.old p.lines p.refused (take end input.old)) table.new input.new result }
-{
-    let done = print_records(table, p.lines, p.refused, &input[..end], out, streams);
-    keep(input, done.taken, end);
-    Progress {
-        held: end - done.taken,
-        lines: done.lines,
-        refused: done.refused,
-        is_open: !done.has_failed,
-        has_failed: done.has_failed,
+    // The ending of the log, at the start of the room for text; answers how long it is.
+    fn put_end(&mut self) -> usize
+        ensures { (result ≤ LARGE) × (take result self.new.printer.out ≡ ending_of (length self.old.printer.out) self.old.held self.old.printer.totals) }
+    {
+        let totals = self.printer.totals;
+        put_ending(&mut self.printer.out, totals, 0 < self.held)
     }
-}
 
-// One piece of the input: reads once, and prints the lines of all records that are whole now.
-fn step<R: Read, O: Write, E: Write>(
-    table: &mut [u32],
-    input: &mut [u8],
-    out: &mut [u8],
-    p: Progress,
-    source: &mut R,
-    name: &[u8],
-    streams: &mut Streams<O, E>,
-) -> Progress
-    requires { (sound table.old ≡ true) × (line_room ≤ length out.old) × (p.held ≤ length input.old) }
-    ensures { Stepped (run_of table.old p.lines p.refused (take p.held input.old)) table.new input.new result }
-{
-    match fetch(input, p.held, source, name, &mut streams.errors) {
-        Fetched::Bytes { count } => take_in(table, input, out, p, p.held + count, streams),
-        Fetched::End => Progress {
-            held: p.held,
-            lines: p.lines,
-            refused: p.refused,
-            is_open: false,
-            has_failed: false,
-        },
-        Fetched::Failed => Progress {
-            held: p.held,
-            lines: p.lines,
-            refused: p.refused,
-            is_open: false,
-            has_failed: true,
-        },
-    }
-}
-
-// The ending of a log, by how far its reading is, at the start of `out`; answers how long it is.
-fn put_end(out: &mut [u8], p: Progress) -> usize
-    ensures { (result ≤ length out.old) × (take result out.new ≡ ending_of (length out.old) p) }
-{
-    put_ending(out, p.lines, p.refused, 0 < p.held)
-}
-
-// The whole input. A loop has to end, and nothing says that an input does: it counts its turns down
-// from a number that no run uses up.
-pub(crate) fn print_log<R: Read, O: Write, E: Write>(
-    table: &mut [u32],
-    input: &mut [u8],
-    out: &mut [u8],
-    source: &mut R,
-    name: &[u8],
-    streams: &mut Streams<O, E>,
-)
-    requires { (table.old ≡ empty_cells) × (line_room ≤ length out.old) × (record_size 128 ≤ length input.old) }
-{
-    let mut p = Progress {
-        held: 0,
-        lines: 0,
-        refused: 0,
-        is_open: true,
-        has_failed: false,
-    };
-    let mut turns = u64::MAX;
-    while turns > 0 && p.is_open {
-        p = step(table, input, out, p, source, name, streams);
-        turns -= 1;
-    }
-    if !p.has_failed {
-        let k = put_end(out, p);
-        print(streams, &out[..k]);
+    // The whole input, from its start, and the ending. A loop has to end, and nothing says that an
+    // input does: it has more turns than any run takes.
+    pub(crate) fn print_log(&mut self) -> Result<(), Failure>
+        requires { run_at self.old ≡ start }
+    {
+        for _ in 0..u64::MAX {
+            let came = self.step()?;
+            if !came {
+                break;
+            }
+        }
+        let size = self.put_end();
+        print(&mut self.printer.output, &self.printer.out[..size])
     }
 }

@@ -1,39 +1,66 @@
 // What the program says besides the lines of a log.
 ghost use Rattle.std.specs.Prelude.{◌≤◌, length};
 
+use std::env::FillError;
+use std::io;
 use std::io::{Error, Write};
 
-// Where the program prints, and where it tells what failed.
-#[derive(Drop)]
-pub(crate) struct Streams<O, E> {
-    pub(crate) output: O,
-    pub(crate) errors: E,
+// Linux's numbers of the errors of an argument that is too long, and of one that is missing.
+const ENAMETOOLONG: i32 = 36;
+
+const EINVAL: i32 = 22;
+
+// Why the program stops.
+#[derive(Clone, Copy)]
+pub(crate) enum Failure {
+    NoSuchOption,
+    OneTooMany,
+    Argument(FillError),
+    Input(Error),
+    Output(Error),
+    // More than can be counted.
+    TooManyRecords,
+}
+
+impl Failure {
+    // Tells it on standard error, with the name of what was read, or the argument.
+    pub(crate) fn tell<E: Write>(self, name: &[u8], errors: &mut E) {
+        match self {
+            Failure::NoSuchOption => tell(errors, b"no such option: ", name),
+            Failure::OneTooMany => tell(errors, b"one argument too many: ", name),
+            Failure::Argument(FillError::TooLong) => {
+                fail(errors, name, &Error::from_raw_os_error(ENAMETOOLONG))
+            }
+            Failure::Argument(FillError::NotPresent) => {
+                fail(errors, name, &Error::from_raw_os_error(EINVAL))
+            }
+            Failure::Input(error) => fail(errors, name, &error),
+            Failure::Output(error) => fail(errors, b"standard output", &error),
+            Failure::TooManyRecords => tell(errors, b"too many records", b""),
+        }
+    }
 }
 
 // The words of an error: of one of the system's, its text without its number.
 fn words_of(text: &str) -> &str {
-    match text.rsplit_once(" (os error ") {
-        Some((words, _)) => words,
-        None => text,
-    }
+    text.rsplit_once(" (os error ")
+        .map_or(text, |(words, _)| words)
 }
 
-// Puts the text of an error at the start of `text`, as far as there is room, and answers how long it is.
-fn put_error(error: &Error, text: &mut [u8]) -> usize
-    ensures { result ≤ length text.new }
-{
-    let mut rest = &mut text[..];
+// The text of an error, as far as there is room for it.
+fn text_of<'a>(error: &Error, room: &'a mut [u8]) -> &'a str {
+    let mut rest = &mut room[..];
     let _ = write!(rest, "{error}");
     let left = rest.len();
-    text.len().saturating_sub(left)
+    let size = room.len().saturating_sub(left);
+    str::from_utf8(&room[..size]).unwrap_or("")
 }
 
-// Tells on standard error what failed, and why, as the system has it. Where it can't be told, nothing
-// is left to do.
-pub(crate) fn fail<E: Write>(errors: &mut E, what: &[u8], error: &Error) {
-    let mut buffer = [0u8; 320];
-    let size = put_error(error, &mut buffer);
-    let text = str::from_utf8(&buffer[..size]).unwrap_or("");
+// A line of what failed, and why, as the system has it. A name is bytes, which need not be UTF-8. Where a part of the line can't be
+// written, the parts after it are tried all the same.
+fn fail<E: Write>(errors: &mut E, what: &[u8], error: &Error) {
+    let mut room = [0; 320];
+    let text = text_of(error, &mut room);
     let _ = errors.write_all(b"logread: ");
     let _ = errors.write_all(what);
     let _ = errors.write_all(b": ");
@@ -41,17 +68,17 @@ pub(crate) fn fail<E: Write>(errors: &mut E, what: &[u8], error: &Error) {
     let _ = errors.write_all(b"\n");
 }
 
-// Tells on standard error what is wrong, and with what.
-pub(crate) fn tell<E: Write>(errors: &mut E, what: &[u8], with: &[u8]) {
+// A line of what is wrong, and with what; each part is tried here too.
+fn tell<E: Write>(errors: &mut E, what: &[u8], with: &[u8]) {
     let _ = errors.write_all(b"logread: ");
     let _ = errors.write_all(what);
     let _ = errors.write_all(with);
     let _ = errors.write_all(b"\n");
 }
 
-// How the program is used, on standard output.
-pub(crate) fn print_usage<O: Write, E: Write>(streams: &mut Streams<O, E>) {
-    let written = streams.output.write_all(
+// How the program is used.
+pub(crate) fn print_usage<O: Write>(output: &mut O) -> io::Result<()> {
+    output.write_all(
         b"usage: logread [FILE]
 
 Reads the log of one hub, from FILE or else from standard input, and prints a
@@ -78,8 +105,5 @@ The totals are the number of records and how many of them are refused.
 If a read or a write fails, it is told on standard error, and there are no
 totals: a log without totals is incomplete.
 ",
-    );
-    if let Err(error) = written {
-        fail(&mut streams.errors, b"standard output", &error);
-    }
+    )
 }

@@ -1,35 +1,22 @@
--- Power, end state and profile: what the place that the functions give says of them.
-use Prim.Native.Nat.{ℕ, ◌+◌, ◌≤◌}
-use native.Mathlib.Omega.{arith}
-use mathlib.Core.Path.{◌≡◌, refl}
-use mathlib.Core.Bool.{Bool, true, false}
-use mathlib.Core.List.{List, []}
-use lib.Dec.{leb}
-use lib.ListN.{get_or}
-use Rattle.protocol.specs.Number.{little_endian}
-use Rattle.protocol.specs.Field.{Fields, outside, values, natural, within, and_then, read_fields}
-use Rattle.protocol.specs.Form.{ending, end_state}
-use Rattle.motor_messages.specs.Ending.{place_of, ending_outside}
+-- Power, end state and profile of a 0C: the refusal of the first that is outside its list is that of the message.
+use Rattle.std.proofs.Common.{◌≡◌, ℕ, true, List, length, get_or}
+use borrow.Author.Tests.{eq-eqb}
+use Rattle.std.specs.Prelude.{Err, refl}
+use Rattle.protocol.specs.Number.{little_endian, twos_complement}
+use Rattle.protocol.specs.Field.{Fields, outside, values, read_fields}
+use Rattle.protocol.specs.Form
+use Rattle.protocol.specs.Form.{layout, start_byte, degrees, signed_speed, ending}
+use Rattle.protocol.specs.Decode.{refused, decode_form}
+use Rattle.protocol.specs.declared.refusal.Refusal.{Refusal}
+use Rattle.protocol.specs.declared.refusal.Refusal.TheVariants.{OutsideList}
+use Rattle.protocol.specs.Refusal.{number_of, place_of}
+use Rattle.hub_messages.specs.Outcome.{outcome}
 
--- a place that is not 0 is that of the first outside its list
-pub ending_refused : (s : List ℕ) (at place : ℕ) → place ≡ ending_outside s at → (place ≡ 0 → ⊥) → read_fields s at ending ≡ outside place
-unfolding ending_outside
-ending_refused s at place e n = go (read_fields s at ending) e
-  where
-    go : (x : Fields) → place ≡ place_of x → x ≡ outside place
-    go (outside p) k = rw k refl
-    go (values vs) k = absurd (n k)
+refused_fields : (r : Refusal) (x : Fields) → Err r ≡ outcome x → (x ≡ outside (place_of r)) × (number_of r ≡ 7)
+refused_fields r (outside at) e = let is : r ≡ OutsideList at = cc in rw is (refl, refl)
+refused_fields r (values vs) e = absurd (cc)
 
--- 0 says that all three are in their lists
-pub ending_inside : (s : List ℕ) (at : ℕ) → 1 ≤ at → 0 ≡ ending_outside s at → (leb (get_or s at 0) 100 ≡ true) × (end_state (get_or s (at + 1) 0) ≡ true) × (leb (get_or s (at + 2) 0) 3 ≡ true)
-unfolding ending_outside little_endian
-ending_inside s at h e =
-    let third : at + 1 + 1 ≡ at + 2 = omega arith in
-    go (leb (get_or s at 0) 100) (end_state (get_or s (at + 1) 0)) (leb (get_or s (at + 2) 0) 3) (rw third at e)
-  where
-    go : (a b c : Bool) → 0 ≡ place_of (and_then (within a at (natural (get_or s at 0))) (and_then (within b (at + 1) (natural (get_or s (at + 1) 0))) (and_then (within c (at + 2) (natural (get_or s (at + 2) 0))) (values []))))
-        → (a ≡ true) × (b ≡ true) × (c ≡ true)
-    go true true true k = (refl, refl, refl)
-    go false b c k = absurd (omega arith)
-    go true false c k = absurd (omega arith)
-    go true true false k = absurd (omega arith)
+pub speed_refused : (s : List ℕ) (r : Refusal) → length s ≡ 15 → start_byte (get_or s 4 0) ≡ true → degrees (twos_complement 4 (little_endian s 6 4)) ≡ true → signed_speed (twos_complement 1 (get_or s 10 0)) ≡ true → signed_speed (twos_complement 1 (get_or s 11 0)) ≡ true
+    → Err r ≡ outcome (read_fields s 12 ending) → decode_form Form.start_speed_for_degrees s ≡ refused (number_of r) (place_of r)
+unfolding decode_form layout little_endian
+speed_refused s r size start turn left right e = rw (eq-eqb (length s) 15 size, start, turn, left, right, (refused_fields r (read_fields s 12 ending) e).0, (refused_fields r (read_fields s 12 ending) e).1)

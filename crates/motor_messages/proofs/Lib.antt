@@ -1,3 +1,1 @@
-pub mod Accepted
 pub mod Endings
-pub mod Feedback

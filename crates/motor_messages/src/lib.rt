@@ -1,83 +1,74 @@
 // Reading the messages on motors: 0x81 and 0x82.
-#![tactic(auto)]
+#![tactic(auto, unfolding(protocol::specs::Decode::decode_form, protocol::specs::Form::layout, protocol::specs::Number::little_endian))]
 
-ghost use Rattle.std.specs.Prelude.{◌≡◌, ◌+◌, ◌≤◌, get_or, length};
+ghost use Rattle.std.specs.Prelude.{◌≡◌, ◌+◌, ◌<◌, ◌≤◌, get_or, length, IsTrue, IsFalse, IfOk, IfErr};
+ghost use Rattle.protocol.specs.Number.{twos_complement};
+ghost use Rattle.protocol.specs.Field.{read_fields};
 ghost use Rattle.protocol.specs.Form as Form;
 ghost use Rattle.protocol.specs.Types.{port_output_command};
 ghost use Rattle.protocol.specs.Decode.{decode_form, decode_type, longest_message};
 ghost use Rattle.protocol.specs.Answer.{answer_of};
-ghost use Rattle.motor_messages.specs.Ending.{ending_outside};
+ghost use Rattle.hub_messages.specs.Outcome.{outcome};
 
-use hub_messages::refusal::{outside, wrong_size};
 use hub_messages::rule::{
-    between, is_degrees, is_end_state, is_signed_speed, is_start_byte, wrong_feedback,
+    exactly, is_degrees, is_end_state, is_signed_speed, is_start_byte, listed, wrong_feedback,
 };
 use numbers::{i8_of, i32_of, u32_at};
-use protocol::{Message, Reading};
+use protocol::{Message, Refusal};
 
 // 0x81: port, start byte, sub command.
-pub fn port_output_command(s: &[u8]) -> Reading
+#[tactic(auto, unfolding(protocol::specs::Decode::decode_type, protocol::specs::Types::port_output_command))]
+pub fn port_output_command(s: &[u8]) -> Result<Message, Refusal>
     ensures { answer_of result ≡ decode_type port_output_command s.now }
 {
     if s.len() < 6 {
-        return wrong_size(6);
+        return Err(Refusal::WrongSize { wanted: 6 });
     }
-    let sub = s[5];
-    match sub {
+    match s[5] {
         0x0C => start_speed_for_degrees(s),
         0x0D => goto_absolute_position(s),
         0x0E => goto_absolute_positions(s),
         0x14 => preset_encoders(s),
-        _ => outside(5),
+        _ => Err(Refusal::OutsideList { place: 5 }),
     }
 }
 
-// Power, end state and profile from `at` on: the place of the first that is outside its list, 0 where
-// none is.
-fn ending_outside(s: &[u8], at: usize) -> u16
-    requires { (at + 3 ≤ length s.now) × (length s.now ≤ longest_message) }
-    ensures { result ≡ ending_outside s.now at }
+// Refusal 7 at the first of power, end state and profile, from `at` on, that is outside its list.
+fn ending(s: &[u8], at: usize) -> Result<(), Refusal>
+    requires inside { at + 3 ≤ length s.now }
+    requires short { length s.now ≤ longest_message }
+    ensures { result ≡ outcome (read_fields s.now at Form.ending) }
 {
-    if 100 < s[at] {
-        return at as u16;
-    }
-    if !is_end_state(s[at + 1]) {
-        return (at + 1) as u16;
-    }
-    if 3 < s[at + 2] {
-        return (at + 2) as u16;
-    }
-    0
+    listed(s[at] <= 100, at as u16)?;
+    listed(is_end_state(s[at + 1]), (at + 1) as u16)?;
+    listed(s[at + 2] <= 3, (at + 2) as u16)
 }
 
-fn start_speed_for_degrees(s: &[u8]) -> Reading
+// A speed whose sign is its direction, or refusal 7 where it is outside its list.
+fn signed_speed(s: &[u8], at: usize) -> Result<i8, Refusal>
+    requires inside { at < length s.now }
+    requires short { length s.now ≤ longest_message }
+    ensures ok { IfOk result (λ speed. (speed ≡ twos_complement 1 (get_or s.now at 0)) × IsTrue (Form.signed_speed speed)) }
+    ensures err { IfErr result (λ e. (e ≡ Refusal.OutsideList at) × IsFalse (Form.signed_speed (twos_complement 1 (get_or s.now at 0)))) }
+{
+    let speed = i8_of(s[at]);
+    listed(is_signed_speed(speed), at as u16)?;
+    Ok(speed)
+}
+
+fn start_speed_for_degrees(s: &[u8]) -> Result<Message, Refusal>
     requires { get_or s.now 5 0 ≡ 0x0C }
     ensures { answer_of result ≡ decode_form Form.start_speed_for_degrees s.now }
 {
-    if s.len() != 15 {
-        return wrong_size(15);
-    }
+    exactly(s, 15)?;
     let start = s[4];
-    if !is_start_byte(start) {
-        return outside(4);
-    }
+    listed(is_start_byte(start), 4)?;
     let degrees = i32_of(u32_at(s, 6));
-    if !is_degrees(degrees) {
-        return outside(6);
-    }
-    let speed_left = i8_of(s[10]);
-    if !is_signed_speed(speed_left) {
-        return outside(10);
-    }
-    let speed_right = i8_of(s[11]);
-    if !is_signed_speed(speed_right) {
-        return outside(11);
-    }
-    let place = ending_outside(s, 12);
-    if place != 0 {
-        return outside(place);
-    }
-    Reading::Accepted(Message::StartSpeedForDegrees {
+    listed(is_degrees(degrees), 6)?;
+    let speed_left = signed_speed(s, 10)?;
+    let speed_right = signed_speed(s, 11)?;
+    ending(s, 12)?;
+    Ok(Message::StartSpeedForDegrees {
         port: s[3],
         start,
         degrees,
@@ -89,26 +80,17 @@ fn start_speed_for_degrees(s: &[u8]) -> Reading
     })
 }
 
-fn goto_absolute_position(s: &[u8]) -> Reading
+fn goto_absolute_position(s: &[u8]) -> Result<Message, Refusal>
     requires { get_or s.now 5 0 ≡ 0x0D }
     ensures { answer_of result ≡ decode_form Form.goto_absolute_position s.now }
 {
-    if s.len() != 14 {
-        return wrong_size(14);
-    }
+    exactly(s, 14)?;
     let start = s[4];
-    if !is_start_byte(start) {
-        return outside(4);
-    }
+    listed(is_start_byte(start), 4)?;
     let speed = s[10];
-    if !between(1, speed, 100) {
-        return outside(10);
-    }
-    let place = ending_outside(s, 11);
-    if place != 0 {
-        return outside(place);
-    }
-    Reading::Accepted(Message::GotoAbsolutePosition {
+    listed(matches!(speed, 1..=100), 10)?;
+    ending(s, 11)?;
+    Ok(Message::GotoAbsolutePosition {
         port: s[3],
         start,
         position: i32_of(u32_at(s, 6)),
@@ -119,26 +101,18 @@ fn goto_absolute_position(s: &[u8]) -> Reading
     })
 }
 
-fn goto_absolute_positions(s: &[u8]) -> Reading
+// Apart from goto_absolute_position: a size, two places and a field differ, and one reader of both would take them all.
+fn goto_absolute_positions(s: &[u8]) -> Result<Message, Refusal>
     requires { get_or s.now 5 0 ≡ 0x0E }
     ensures { answer_of result ≡ decode_form Form.goto_absolute_positions s.now }
 {
-    if s.len() != 18 {
-        return wrong_size(18);
-    }
+    exactly(s, 18)?;
     let start = s[4];
-    if !is_start_byte(start) {
-        return outside(4);
-    }
+    listed(is_start_byte(start), 4)?;
     let speed = s[14];
-    if !between(1, speed, 100) {
-        return outside(14);
-    }
-    let place = ending_outside(s, 15);
-    if place != 0 {
-        return outside(place);
-    }
-    Reading::Accepted(Message::GotoAbsolutePositions {
+    listed(matches!(speed, 1..=100), 14)?;
+    ending(s, 15)?;
+    Ok(Message::GotoAbsolutePositions {
         port: s[3],
         start,
         position_1: i32_of(u32_at(s, 6)),
@@ -150,18 +124,14 @@ fn goto_absolute_positions(s: &[u8]) -> Reading
     })
 }
 
-fn preset_encoders(s: &[u8]) -> Reading
+fn preset_encoders(s: &[u8]) -> Result<Message, Refusal>
     requires { get_or s.now 5 0 ≡ 0x14 }
     ensures { answer_of result ≡ decode_form Form.preset_encoders s.now }
 {
-    if s.len() != 14 {
-        return wrong_size(14);
-    }
+    exactly(s, 14)?;
     let start = s[4];
-    if !is_start_byte(start) {
-        return outside(4);
-    }
-    Reading::Accepted(Message::PresetEncoders {
+    listed(is_start_byte(start), 4)?;
+    Ok(Message::PresetEncoders {
         port: s[3],
         start,
         left: i32_of(u32_at(s, 6)),
@@ -170,22 +140,17 @@ fn preset_encoders(s: &[u8]) -> Reading
 }
 
 // 0x82: pairs of port and feedback.
-pub fn output_feedback(s: &[u8]) -> Reading
+pub fn output_feedback(s: &[u8]) -> Result<Message, Refusal>
     ensures { answer_of result ≡ decode_form Form.output_feedback s.now }
 {
     let size = s.len();
-    if size < 5 {
-        return wrong_size(5);
+    if !(5..=127).contains(&size) || (size - 3) % 2 != 0 {
+        return Err(Refusal::WrongSize { wanted: 5 });
     }
-    if 127 < size {
-        return wrong_size(5);
+    match wrong_feedback(&s[3..]) {
+        Some(i) => Err(Refusal::OutsideList {
+            place: (3 + i) as u16,
+        }),
+        None => Ok(Message::OutputFeedback),
     }
-    if (size - 3) % 2 != 0 {
-        return wrong_size(5);
-    }
-    let wrong = wrong_feedback(&s[3..]);
-    if wrong < size - 3 {
-        return outside((3 + wrong) as u16);
-    }
-    Reading::Accepted(Message::OutputFeedback)
 }

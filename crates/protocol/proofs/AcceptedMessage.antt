@@ -14,7 +14,7 @@ use Rattle.protocol.specs.Types.{Selection, always, select, MessageType, selecto
 use Rattle.protocol.specs.Decode.{accepted, header, decode_form, decode_selection}
 use Rattle.protocol.specs.Answer.{natural_at, answer_of, message_of}
 use Rattle.protocol.specs.RoundTrip.{AcceptedIsMessage}
-use Rattle.protocol.specs.declared.Reading.TheVariants.{Accepted}
+use Rattle.std.specs.Prelude.{Ok}
 use Rattle.protocol.specs.declared.Way.{Way}
 use Rattle.protocol.specs.declared.Way.TheVariants.{Down, Up}
 use Rattle.protocol.proofs.FieldTrip.{never}
@@ -47,7 +47,7 @@ by_test false f g P passed failed = failed refl
 -- ---- of every type
 
 abbrev IsMessage : Form → List Value → Type 0
-IsMessage f vs = answer_of (Accepted (message_of f vs)) ≡ accepted f vs
+IsMessage f vs = answer_of (Ok (message_of f vs)) ≡ accepted f vs
 
 -- all values with which a type's selectors lead to a form are a message's
 abbrev AreMessages : ℕ → MessageType → Type 0

@@ -3,9 +3,9 @@ use mathlib.Core.Path.{◌≡◌, refl, sym, ◌∙◌, ap}
 use Rattle.protocol.specs.Answer.{answer_of, message_of_answer}
 use Rattle.protocol.specs.declared.Message.{Message}
 use Rattle.protocol.specs.declared.Message.TheVariants as Message'
-use Rattle.protocol.specs.declared.Reading.TheVariants.{Accepted}
+use Rattle.std.specs.Prelude.{Ok}
 
-pub message_back : (m : Message) → message_of_answer (answer_of (Accepted m)) ≡ m
+pub message_back : (m : Message) → message_of_answer (answer_of (Ok m)) ≡ m
 message_back (Message'.PropertyCommand p o) = refl
 message_back (Message'.PropertyText p o) = refl
 message_back (Message'.PropertyByte p o v) = refl
@@ -49,5 +49,5 @@ message_back (Message'.ModeDatasets p x) = refl
 message_back (Message'.PortValueCombined p w) = refl
 message_back (Message'.InputFormatCombined p c w) = refl
 
-pub answers_differ : (a b : Message) → answer_of (Accepted a) ≡ answer_of (Accepted b) → a ≡ b
+pub answers_differ : (a b : Message) → answer_of (Ok a) ≡ answer_of (Ok b) → a ≡ b
 answers_differ a b e = sym (message_back a) ∙ ap message_of_answer e ∙ message_back b

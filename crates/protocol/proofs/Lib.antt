@@ -6,7 +6,6 @@ pub mod FieldTrip
 pub mod FieldsTrip
 pub mod FormTrip
 pub mod Overwrite
-pub mod Properties
 pub mod RestTrip
 pub mod RoundTrip
 pub mod AcceptedMessage
@@ -16,9 +15,7 @@ pub mod Sizes
 pub mod Floats
 pub mod Selection
 pub mod Signed
-pub mod SignedRule
 pub mod Tests
-pub mod FixedString
 pub mod Table
 pub mod Bits
 pub mod Bytes

@@ -7,15 +7,11 @@ use mathlib.Core.Bool.{true, false}
 use mathlib.Core.Logic.{⊎_elim}
 use borrow.Author.Tests.{lt-ltb, le-ltb, ltb-true, ltb-false}
 use lib.Dec.{ltb}
-use lib.IntN.{ℤ, pos, negsuc, sub_ℕ}
+use lib.IntN.{ℤ, pos, negsuc}
 use lib.Pow.{pow-add}
 use Rattle.protocol.specs.Number.{twos_complement}
 use Rattle.protocol.specs.Encode.{of_integer, in_range}
 use Rattle.protocol.proofs.Tests.{which}
-
--- in the upper half n stands for n less the whole range: as far below 0 as it is below the range's end
-pub upper_half : (half n : ℕ) → half ≤ n → n < half + half → sub_ℕ (n - half) half ≡ negsuc (half + half - suc n)
-upper_half half n h k = rw (lt-ltb (n - half) half (omega arith)) (ap negsuc (omega arith))
 
 -- ---- over the width in bytes
 

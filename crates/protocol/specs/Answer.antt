@@ -1,5 +1,5 @@
 -- The paper's answer for each case of a reading, and back.
-use Rattle.std.specs.Prelude.{ℕ, List, [], ◌∷◌, ℤ, pos, Float, get_or}
+use Rattle.std.specs.Prelude.{ℕ, List, [], ◌∷◌, ℤ, pos, Float, get_or, Result, Ok, Err}
 use Rattle.std.specs.Float.{nan}
 use Rattle.protocol.specs.Field.{Value, natural, integer, real}
 use Rattle.protocol.specs.Form.{Form}
@@ -7,8 +7,8 @@ use Rattle.protocol.specs.Decode.{Answer, refused, accepted}
 use Rattle.protocol.specs.declared.Combinations.{Combinations}
 use Rattle.protocol.specs.declared.Message.{Message}
 use Rattle.protocol.specs.declared.Message.TheVariants as Message'
-use Rattle.protocol.specs.declared.Reading.{Reading}
-use Rattle.protocol.specs.declared.Reading.TheVariants.{Accepted, Refused}
+use Rattle.protocol.specs.declared.refusal.Refusal.{Refusal}
+use Rattle.protocol.specs.Refusal.{number_of, place_of}
 
 abbrev pub form_of : Message → Form
 form_of (Message'.PropertyCommand p o) = Form.property_command
@@ -112,9 +112,9 @@ values_of (Message'.ModeDatasets p x) = natural p ∷ natural 1 ∷ natural x �
 values_of (Message'.PortValueCombined p w) = natural p ∷ natural w ∷ []
 values_of (Message'.InputFormatCombined p c w) = natural p ∷ natural c ∷ natural w ∷ []
 
-abbrev pub answer_of : Reading → Answer
-answer_of (Accepted m) = accepted (form_of m) (values_of m)
-answer_of (Refused number place) = refused number place
+abbrev pub answer_of : Result Message Refusal → Answer
+answer_of (Ok m) = accepted (form_of m) (values_of m)
+answer_of (Err r) = refused (number_of r) (place_of r)
 
 -- The message of a form and its values. It undoes `form_of` and `values_of`: `message_back` in proofs/Answers.antt.
 abbrev as_natural : Value → ℕ

@@ -1,3 +1,4 @@
+pub mod Refusal
 pub mod Number
 pub mod Overwrite
 pub mod Rule

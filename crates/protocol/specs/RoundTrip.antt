@@ -11,11 +11,11 @@ use Rattle.protocol.specs.declared.Way.{Way}
 use Rattle.protocol.specs.declared.Way.TheVariants.{Down, Up}
 use Rattle.protocol.specs.declared.Message.{Message}
 use Rattle.protocol.specs.declared.Message.TheVariants.{LockMemory, LockStatusRequest, LockStatus}
-use Rattle.protocol.specs.declared.Reading.TheVariants.{Accepted}
+use Rattle.std.specs.Prelude.{Ok}
 
 -- every accepted answer is a message's, so that what is said below of messages is said of all that reading accepts
 abbrev pub AcceptedIsMessage : Type 0
-AcceptedIsMessage = (way : Way) (s : List ℕ) (f : Form) (vs : List Value) → decode way s ≡ accepted f vs → answer_of (Accepted (message_of f vs)) ≡ accepted f vs
+AcceptedIsMessage = (way : Way) (s : List ℕ) (f : Form) (vs : List Value) → decode way s ≡ accepted f vs → answer_of (Ok (message_of f vs)) ≡ accepted f vs
 
 -- the message as reading gives it back: itself, but that the entries of a 43 past its count are 0
 abbrev pub settled : Message → Message
@@ -28,7 +28,7 @@ NoMemoryLock m = one_of (0x11 ∷ 0x12 ∷ 0x13 ∷ []) (code (form_of m)) ≡ f
 -- what reading accepts, writing gives back byte for byte
 abbrev pub ReadThenWritten : Type 0
 ReadThenWritten =
-    (way : Way) (s : List ℕ) → Bytes s → (m : Message) → NoMemoryLock m → decode way s ≡ answer_of (Accepted m) → encode way m (open_part way s) ≡ encoded s
+    (way : Way) (s : List ℕ) → Bytes s → (m : Message) → NoMemoryLock m → decode way s ≡ answer_of (Ok m) → encode way m (open_part way s) ≡ encoded s
 
 -- refused with 23 one way, with 5 the other, whatever the open bytes are
 abbrev ReadOnly : Way → Way → Message → Type 0
@@ -41,10 +41,10 @@ MemoryLockRefused = ReadOnly Down Up LockMemory × ReadOnly Down Up LockStatusRe
 -- what writing accepts, reading gives back field for field and tail for tail
 abbrev pub WrittenThenRead : Type 0
 WrittenThenRead =
-    (way : Way) (m : Message) (opens s : List ℕ) → encode way m opens ≡ encoded s → (decode way s ≡ answer_of (Accepted (settled m))) × (open_part way s ≡ opens)
+    (way : Way) (m : Message) (opens s : List ℕ) → encode way m opens ≡ encoded s → (decode way s ≡ answer_of (Ok (settled m))) × (open_part way s ≡ opens)
 
 -- of all other types writing refuses only what no accepted reading gives
 abbrev pub RefusedOnly : Type 0
 RefusedOnly =
     (way : Way) (m : Message) (opens : List ℕ) → NoMemoryLock m → (number place : ℕ) → encode way m opens ≡ refused number place
-    → (s : List ℕ) → Bytes s → decode way s ≡ answer_of (Accepted m) → open_part way s ≡ opens → ⊥
+    → (s : List ℕ) → Bytes s → decode way s ≡ answer_of (Ok m) → open_part way s ≡ opens → ⊥

@@ -1,11 +1,16 @@
-// The messages of LEGO Wireless Protocol 3.0 as values. Definitions and laws only: no function.
+// The messages of LEGO Wireless Protocol 3.0 as values, and the refusals. Definitions and laws; no function but a refusal's
+// number and place.
 //
 // Names follow document 002. Open bytes (names, symbols, texts, values, feedback, lists of entries) are not in a
 // message: they stay where they are, in the caller's own slice.
 #![tactic(auto)]
 
+mod refusal;
+
+pub use refusal::Refusal;
+
 // Where a message goes: down to the hub, or up from it.
-#[derive(Clone, Copy)]
+#[derive(Clone, Copy, Debug, PartialEq, Eq)]
 pub enum Way {
     Down,
     Up,
@@ -13,6 +18,7 @@ pub enum Way {
 
 // The possible mode combinations of a port (0x43, information type 2): how many entries were sent,
 // one to eight, and the entries. Those past the count are 0.
+// Eight fields: WrittenThenRead and answers_differ are of every message, and an array is to them a list of any length.
 #[derive(Clone, Copy)]
 pub struct Combinations {
     pub count: u8,
@@ -27,7 +33,8 @@ pub struct Combinations {
 }
 
 // One message, a case for each form. Where a selector has one value only in a form, the case stands
-// for it; where it has several, it is a field.
+// for it; where it has several, it is a field. Selectors and kinds are numbers and no enums, since writing
+// takes any number and refuses with 7 what is in no list (`writer::write`, `RefusedOnly`).
 #[derive(Clone, Copy)]
 pub enum Message {
     // 0x01, without payload: Enable, Disable, Reset, Request.
@@ -269,18 +276,4 @@ pub enum Message {
         control: u8,
         pointers: u16,
     },
-}
-
-// What reading gives: the message, or the number and place of the refusal.
-#[derive(Clone, Copy)]
-pub enum Reading {
-    Accepted(Message),
-    Refused { number: u8, place: u16 },
-}
-
-// What writing gives: the message's length, or the number and place of the refusal.
-#[derive(Clone, Copy)]
-pub enum Written {
-    Length(u16),
-    Refused { number: u8, place: u16 },
 }

@@ -2,10 +2,10 @@
 use Prim.Native.Nat.{ℕ, suc, ◌+◌, ◌≤◌, ◌<◌}
 use native.Mathlib.Omega.{arith}
 use mathlib.Core.Path.{◌≡◌, sym, ◌∙◌, ap}
-use mathlib.Core.Bool.{true, false, not, ◌&&◌}
+use mathlib.Core.Bool.{true, not, ◌&&◌}
 use mathlib.Core.List.{List, ◌++◌}
 use mathlib.Core.Option.{Option, none, some}
-use borrow.Author.Tests.{ne_eqb, ltb-true}
+use borrow.Author.Tests.{ltb-true}
 use lib.Dec.{ltb, eqb}
 use lib.ListN.{length, drop, take-append-drop, length-drop}
 use lib.Seq.{drop-drop, take_all}
@@ -14,11 +14,10 @@ use Rattle.protocol.proofs.Tests.{and_left, and_right}
 use Rattle.rules.specs.Facts.{Asking, Answering, Facts, View}
 use Rattle.rules.specs.declared.Wiring.{Wiring}
 use Rattle.rules.specs.declared.Wiring.TheVariants.{Unjoined, Joined, Virtual}
-use Rattle.rules.specs.Answer.{refused, accepted}
 use Rattle.rules.specs.Layout.{port_count, mode_count, places, stride, device_index, state_index, experiment_index, formats_index, list_index, taken_index}
 use Rattle.rules.specs.Table.{view_of_table}
 use Rattle.rules.specs.WellFormed.{is_joined_to, is_pair_with, wiring_fits, settings_fit}
-use Rattle.rules.specs.Cells.{first_partner, second_partner, format_at, wiring_at, taken_by, list_cells, list_from, settings_at, record_at, table_at, sound}
+use Rattle.rules.specs.Cells.{first_partner, second_partner, format_at, taken_by, list_cells, list_from, settings_at, record_at, table_at, sound}
 use Rattle.rules.specs.Offer.{view_of_cells}
 use Rattle.rules.proofs.CellsSound.{same_equal, sound_length}
 use Rattle.rules.proofs.SettingsFit.{five_passed}
@@ -29,29 +28,8 @@ use Rattle.soundness.specs.Soundness.{answered_in, cells_of_list, exact_asked, e
 use Rattle.soundness.proofs.Places.{place_size}
 use Rattle.soundness.proofs.Records.{here, some_at, device_at, wiring_at_lem, asked_at_lem, answered_at_lem, list_at, state_at, experiment_at, format_at_lem, fit}
 use Rattle.soundness.proofs.Sound.{settings_here_lem}
-use Rattle.queries.specs.FormatAnswer.{format_from, format_by_cells}
-use Rattle.queries.specs.PortAnswer.{port_facts, port_by_cells, Lists, asked_here, answered_here}
-
--- ---- a sound table is not refused
-
-pub port_sound : (cells : List ℕ) (port : ℕ) → sound cells ≡ true → port_by_cells cells port ≡ accepted (port_facts (view_of_cells cells port))
-unfolding port_by_cells
-port_sound cells port s = rw s
-
-pub format_sound : (cells : List ℕ) (port mode : ℕ) → sound cells ≡ true → format_by_cells cells port mode ≡ accepted (format_from (view_of_cells cells port) mode)
-unfolding format_by_cells
-format_sound cells port mode s = rw s
-
--- ---- one that isn't sound is
-
-module _ (cells : List ℕ) (unsound : sound cells ≡ false) where
-  pub port_9 : (port : ℕ) → port_by_cells cells port ≡ refused 9 0
-  unfolding port_by_cells
-  port_9 port = rw unsound
-
-  pub format_9 : (port mode : ℕ) → format_by_cells cells port mode ≡ refused 9 0
-  unfolding format_by_cells
-  format_9 port mode = rw unsound
+use Rattle.queries.specs.FormatAnswer.{format_from}
+use Rattle.queries.specs.PortAnswer.{port_facts, Lists, asked_here, answered_here}
 
 -- ---- the lists at a place
 
@@ -88,17 +66,6 @@ module _ (cells : List ℕ) (i : ℕ) (s : sound cells ≡ true) (h : i < places
     inside = h;
     exact = both ∙ (λ j. (kept_exact ∙ ap list_cells (list_at cells i)) j ++ (taken_exact ∙ ap (λ (x : Option Answering). list_cells (taken_by x)) (answered_at_lem cells i ∙ sym e)) j);
   }
-
--- ---- a wiring
-
-pub wiring_unjoined : (kind a b : ℕ) → kind ≡ 1 → wiring_at kind a b ≡ Unjoined
-wiring_unjoined kind a b e = ap (λ (k : ℕ). wiring_at k a b) e
-
-pub wiring_joined : (kind a b : ℕ) → kind ≡ 2 → wiring_at kind a b ≡ Joined a
-wiring_joined kind a b e = ap (λ (k : ℕ). wiring_at k a b) e
-
-pub wiring_virtual : (kind a b : ℕ) → (kind ≡ 1 → ⊥) → (kind ≡ 2 → ⊥) → wiring_at kind a b ≡ Virtual a b
-wiring_virtual kind a b one two = rw (ne_eqb kind 1 one, ne_eqb kind 2 two)
 
 -- ---- partners
 

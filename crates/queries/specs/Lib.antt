@@ -1,3 +1,4 @@
 pub mod FormatAnswer
+pub mod Options
 pub mod PortAnswer
 pub mod PortsAnswer

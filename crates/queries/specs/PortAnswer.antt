@@ -1,20 +1,22 @@
 -- What asking for a port answers: 9 where the table isn't sound, else what it says of the port, its formats left out; none
--- where the port isn't present. Then document 01's answer for each case of the code's.
-use Rattle.std.specs.Prelude.{ℕ, ◌+◌, ◌<◌, ◌≡◌, cond, List, ◌++◌, length, drop}
+-- where the port isn't present. Then document 01's answer for a result of the code.
+use Rattle.std.specs.Prelude as Code
+use Rattle.std.specs.Prelude.{ℕ, ◌+◌, ◌<◌, ◌≡◌, cond, List, ◌++◌, length, drop, Some, None, Result, Ok, Err}
 use Rattle.std.proofs.Math.Option.{Option, none, some}
-use Rattle.rules.specs.Answer.{Answer, refused, accepted}
+use Rattle.protocol.specs.declared.refusal.Refusal.{Refusal}
+use Rattle.rules.specs.Answer.{Answer, refused, accepted, answered}
 use Rattle.rules.specs.Layout.{places, table_size, asked_index, answered_index, list_index, taken_index}
 use Rattle.rules.specs.Facts.{Asking, asked_single, asked_combined, Answering, answered_single, answered_combined, Facts}
 use Rattle.rules.specs.Cells.{asked_at, answered_at, taken_by, list_cells, sound}
 use Rattle.rules.specs.Offer.{view_of_cells}
 use Rattle.rules.specs.declared.Wiring.{Wiring}
 use Rattle.soundness.specs.Place.{place_at_index, cell_of, entries_here, list_here}
-use Rattle.queries.specs.declared.query.LatestAsking.{LatestAsking}
-use Rattle.queries.specs.declared.query.LatestAsking.TheVariants as Asked
-use Rattle.queries.specs.declared.query.LatestAnswer.{LatestAnswer}
-use Rattle.queries.specs.declared.query.LatestAnswer.TheVariants as Answered
+use Rattle.queries.specs.Options.{option_of}
+use Rattle.queries.specs.declared.query.Asking as Asked
+use Rattle.queries.specs.declared.query.Asking.TheVariants as Asked'
+use Rattle.queries.specs.declared.query.Answering as Answered
+use Rattle.queries.specs.declared.query.Answering.TheVariants as Answered'
 use Rattle.queries.specs.declared.query.Port.{Port}
-use Rattle.queries.specs.declared.query.Port.TheVariants.{Absent, Present, Refused}
 
 pub record PortFacts : Type 0 where
   pub device : ℕ
@@ -36,23 +38,28 @@ port_facts (some f) =
 unfoldable pub port_by_cells : List ℕ → ℕ → Answer (Option PortFacts)
 port_by_cells cells port = cond (sound cells) (accepted (port_facts (view_of_cells cells port))) (refused 9 0)
 
-abbrev pub asking_of : LatestAsking → Option Asking
-asking_of Asked.Never = none
-asking_of (Asked.Single s) = some (asked_single s)
-asking_of Asked.Combined = some asked_combined
+abbrev pub asking_in : Asked.Asking → Asking
+asking_in (Asked'.Single s) = asked_single s
+asking_in Asked'.Combined = asked_combined
+
+abbrev pub asking_of : Code.Option Asked.Asking → Option Asking
+asking_of = option_of asking_in
 
 -- with the list that a 48 took over
-abbrev pub answering_of : LatestAnswer → List ℕ → Option Answering
-answering_of Answered.Never taken = none
-answering_of (Answered.Single s) taken = some (answered_single s)
-answering_of (Answered.Combined p) taken = some (answered_combined p taken)
+abbrev pub answering_in : List ℕ → Answered.Answering → Answering
+answering_in taken (Answered'.Single s) = answered_single s
+answering_in taken (Answered'.Combined p) = answered_combined p taken
+
+abbrev pub answering_of : Code.Option Answered.Answering → List ℕ → Option Answering
+answering_of x taken = option_of (answering_in taken) x
 
 -- the lists stand in the cells of the port's place
-abbrev pub answer_of : List ℕ → Port → Answer (Option PortFacts)
-answer_of cells Absent = accepted none
-answer_of cells (Present device wiring answered asked state experiment place) =
-    accepted (some (record { device = device; wiring = wiring; answered = answering_of answered (entries_here cells place taken_index); asked = asking_of asked; list = list_here cells place list_index; state = state; experiment = experiment }))
-answer_of cells (Refused number place) = refused number place
+abbrev pub facts_of : List ℕ → Port → PortFacts
+facts_of cells p =
+    record { device = p.device; wiring = p.wiring; answered = answering_of p.answered (entries_here cells p.place taken_index); asked = asking_of p.asked; list = list_here cells p.place list_index; state = p.state; experiment = p.experiment }
+
+abbrev pub answer_of : List ℕ → Result (Code.Option Port) Refusal → Answer (Option PortFacts)
+answer_of cells = answered (option_of (facts_of cells))
 
 -- the last cells of the place, from an index on, are those of the two lists
 pub record Lists (cells : List ℕ) (place : ℕ) (kept taken : Option (List ℕ)) : Type 0 where
@@ -60,10 +67,13 @@ pub record Lists (cells : List ℕ) (place : ℕ) (kept taken : Option (List ℕ
   pub inside : place < places
   pub exact : drop list_index (place_at_index cells place) ≡ list_cells kept ++ list_cells taken
 
-abbrev pub lists_stand : List ℕ → Port → Type 0
-lists_stand cells Absent = Unit {0}
-lists_stand cells (Present device wiring answered asked state experiment place) = Lists cells place (list_here cells place list_index) (taken_by (answering_of answered (entries_here cells place taken_index)))
-lists_stand cells (Refused number place) = Unit {0}
+abbrev pub lists_of : List ℕ → Code.Option Port → Type 0
+lists_of cells None = Unit {0}
+lists_of cells (Some p) = Lists cells p.place (list_here cells p.place list_index) (taken_by (answering_of p.answered (entries_here cells p.place taken_index)))
+
+abbrev pub lists_stand : List ℕ → Result (Code.Option Port) Refusal → Type 0
+lists_stand cells (Ok p) = lists_of cells p
+lists_stand cells (Err r) = Unit {0}
 
 -- ---- what the cells of a place stand for
 

@@ -7,7 +7,7 @@ use Rattle.protocol.specs.Encode.{encoded, encode}
 use Rattle.protocol.specs.RoundTrip.{NoMemoryLock}
 use Rattle.protocol.specs.declared.Way.{Way}
 use Rattle.protocol.specs.declared.Message.{Message}
-use Rattle.protocol.specs.declared.Reading.TheVariants.{Accepted}
+use Rattle.std.specs.Prelude.{Ok}
 use Rattle.message_rows.specs.Row.{accepted_row}
 use Rattle.row_messages.specs.RowWriting.{message_in, row_encoded}
 
@@ -15,7 +15,7 @@ use Rattle.row_messages.specs.RowWriting.{message_in, row_encoded}
 -- said to be and whatever cells follow
 abbrev EachReadRow : (Way → List ℕ → Message → List ℕ → Type 0) → Type 0
 EachReadRow P =
-    (way : Way) (s : List ℕ) → Bytes s → (m : Message) → decode way s ≡ answer_of (Accepted m)
+    (way : Way) (s : List ℕ) → Bytes s → (m : Message) → decode way s ≡ answer_of (Ok m)
     → (start count : ℕ) (more : List ℕ) → P way s m (accepted_row (form_of m) start count (values_of m) ++ more)
 
 -- the message of that row is the message that was read

@@ -21,7 +21,9 @@ use Rattle.rules.specs.Entries.{entry_mode, format_width}
 use Rattle.rules.specs.Facts.{Format, Settings, Wiring, Unjoined, Joined, Virtual, Facts, Ports, Mode, single, combined}
 use Rattle.rules.specs.OpenBytes.{looks_at_opens, heard}
 use Rattle.rules.specs.Pointers.{pointed}
-use Rattle.rules.specs.ValueLookup.{ValueLookup, Found, Refused, with_format, with_facts, value_experiment, value_lookup}
+use Rattle.std.specs.Prelude.{Result, Ok, Err}
+use Rattle.protocol.specs.declared.refusal.Refusal.{Refusal}
+use Rattle.rules.specs.ValueLookup.{ValueLookup, with_format, with_facts, value_experiment, value_lookup}
 use Rattle.rules.specs.Judge.{change_refusal, told_refusal, judge}
 use Rattle.rules.specs.Dataset.{Dataset, value_at, dataset_of, value_dataset, entry_value, entries_dataset, mode_dataset, combined_dataset, accepted_dataset, dataset_answer}
 use Rattle.rules.specs.Latest.{asking_number, or_zero}
@@ -260,9 +262,9 @@ empty_no_numbers = subst NoNumbers (sym empty_table) tt
 
 -- ---- and then in a value
 
-abbrev lookup_number : ValueLookup → ℕ
-lookup_number (Refused n) = 0
-lookup_number (Found mode state experiment f) = experiment
+abbrev lookup_number : Result ValueLookup Refusal → ℕ
+lookup_number (Err r) = 0
+lookup_number (Ok l) = l.experiment
 
 no_value : (s : Settings) → s.experiment ≡ 0 → value_experiment s ≡ 0
 no_value s e = either_way (λ (n : ℕ). n ≡ 0) (eqb s.state 2) s.experiment 0 e refl
@@ -301,10 +303,10 @@ no_value_at port mode state experiment kind e bytes n =
     let bits : ℕ = little_endian bytes (n * 4) 4 in
     no_choice (eqb kind 3) _ _ (no_choice (is_finite (of_bits binary32 bits)) _ _ e refl) e
 
-no_dataset : (port : ℕ) (l : ValueLookup) → lookup_number l ≡ 0 → (bytes : List ℕ) (n : ℕ) → dataset_experiment (value_dataset port l bytes n) ≡ 0
+no_dataset : (port : ℕ) (l : Result ValueLookup Refusal) → lookup_number l ≡ 0 → (bytes : List ℕ) (n : ℕ) → dataset_experiment (value_dataset port l bytes n) ≡ 0
 unfolding dataset_of
-no_dataset port (Refused m) e bytes n = refl
-no_dataset port (Found mode state experiment f) e bytes n = no_choice (ltb n f.datasets) _ _ (no_value_at port mode state experiment f.kind e bytes n) refl
+no_dataset port (Err r) e bytes n = refl
+no_dataset port (Ok l) e bytes n = no_choice (ltb n l.format.datasets) _ _ (no_value_at port l.mode l.state l.experiment l.format.kind e bytes n) refl
 
 -- of a 46
 no_entry : (port : ℕ) (s : Settings) → s.experiment ≡ 0 → (entry : ℕ) (f : Option Format) (bytes : List ℕ) → dataset_experiment (entry_value port s entry f bytes) ≡ 0

@@ -1,12 +1,14 @@
 -- Judging a message on what is known of the ports: refusals 10 to 16 in the order of document 01, and after 10 those of document
 -- 02: 22; 21 of a 48; 20, 21, 15, 17, 16 of a 46. 0 where it is accepted. Their place is 0.
-use Rattle.std.specs.Prelude.{ℕ, ◌*◌, Bool, true, false, cond, not, ◌&&◌, List, [], ◌∷◌, eqb, length}
+use Rattle.std.specs.Prelude.{ℕ, ◌*◌, Bool, true, false, cond, not, ◌&&◌, List, [], ◌∷◌, eqb, length, Result, Ok, Err}
 use Rattle.std.proofs.Math.Option.{Option, none, some}
 use Rattle.rules.specs.Effect.{Change, Unchanged, Formatted, Answered, Asked, Listed, Combined, Effect, Nothing, ToPort, Attach, AttachVirtual, Detach, Value, Disconnect, Connect, Empty, ToVirtual, Feedback, CombinedValue}
 use Rattle.rules.specs.Entries.{all_formatted, all_below_count, total_width}
 use Rattle.rules.specs.Facts.{Format, Settings, Facts, View, Ports, Mode, single, combined, known, is_unjoined, is_virtual}
 use Rattle.rules.specs.Pointers.{pointed, pointers_fit, pointers_among}
-use Rattle.rules.specs.ValueLookup.{ValueLookup, Found, Refused, value_lookup}
+use Rattle.protocol.specs.Refusal.{number_of}
+use Rattle.protocol.specs.declared.refusal.Refusal.{Refusal}
+use Rattle.rules.specs.ValueLookup.{ValueLookup, value_lookup}
 use Rattle.rules.specs.Width.{width_of}
 
 -- document 01's "present"
@@ -34,9 +36,9 @@ abbrev pub size_refusal : Format → ℕ → ℕ
 size_refusal f count = cond (eqb count (f.datasets * width_of f.kind)) 0 16
 
 -- a value of so many bytes, by what it is read by
-abbrev pub judge_value : ValueLookup → ℕ → ℕ
-judge_value (Refused n) count = n
-judge_value (Found mode state experiment f) count = size_refusal f count
+abbrev pub judge_value : Result ValueLookup Refusal → ℕ → ℕ
+judge_value (Err r) count = number_of r
+judge_value (Ok l) count = size_refusal l.format count
 
 -- 10, then a refusal for a physical port, joined or not: 12 of a disconnection, 22 of a command
 abbrev pub refusal_unless_virtual : ℕ → Option Facts → ℕ

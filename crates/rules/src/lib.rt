@@ -12,7 +12,8 @@ pub struct Setup {
     pub notify: u8,
 }
 
-// A mode's value format (0x44, information type 0x80).
+// A mode's value format (0x44, information type 0x80). Its kind is a number and no enum, since a cell of a table has any
+// number, and `dataset_of` hands out by any.
 #[derive(Clone, Copy)]
 pub struct Format {
     pub datasets: u8,
@@ -102,16 +103,11 @@ pub enum Effect {
 }
 
 // What a value of a port is read by: the mode that the hub last answered, the port's state, the experiment number that the
-// value carries and that mode's format; or why it can't be read: 10, 14 or 15.
+// value carries and that mode's format.
 #[derive(Clone, Copy)]
-pub enum ValueLookup {
-    Found {
-        mode: u8,
-        state: u8,
-        experiment: u16,
-        format: Format,
-    },
-    Refused {
-        number: u8,
-    },
+pub struct ValueLookup {
+    pub mode: u8,
+    pub state: u8,
+    pub experiment: u16,
+    pub format: Format,
 }

@@ -1,28 +1,29 @@
 -- What comes of a form's way and selectors, by the definition of writing.
-use Prim.Native.Nat.{ℕ, zero, suc, ◌+◌}
+use Prim.Native.Nat.{ℕ, zero, suc}
 use native.Mathlib.Omega.{arith}
 use mathlib.Core.Path.{◌≡◌, refl, sym, ◌∙◌, ap}
 use mathlib.Core.Bool.{Bool, true, false, cond, ◌||◌}
 use mathlib.Core.List.{List, [], ◌∷◌}
 use mathlib.Core.Logic.{⊎_elim}
 use borrow.Author.Tests.{eqb-true, eq-eqb, ne_eqb, le-leb}
-use lib.Dec.{eqb}
-use lib.ListN.{get_or}
+use lib.Dec.{eqb, leb}
+use Rattle.std.proofs.lemmas.Bool.Decides.{nat_tests}
+use Rattle.std.proofs.Math.ListN.{get_or-eq_default}
 use Rattle.protocol.proofs.Answers.{message_back}
 use Rattle.protocol.proofs.Tests.{which}
 use Rattle.protocol.specs.Rule.{between, one_of, either}
 use Rattle.protocol.specs.Properties.{carries, allowed, outside_selector}
 use Rattle.protocol.specs.Field.{Value}
-use Rattle.protocol.specs.Form.{Form, form_number, argument, same_form, code}
+use Rattle.protocol.specs.Form.{Form, form_number, argument, same_form, code, forms_by}
 use Rattle.protocol.specs.Types.{payload, down_action, up_action, hub_properties, hub_actions, hub_alerts, hub_attached_io, port_information, port_mode_information, combined_format_setup, virtual_port_setup, port_output_command, types, read_only}
 use Rattle.protocol.specs.Answer.{form_of, values_of, natural_at, message_of}
 use Rattle.protocol.specs.Encode.{Encoded, refused, encode_form, encode_values, encode}
 use Rattle.protocol.specs.declared.Message.{Message}
 use Rattle.protocol.specs.declared.Way.{Way}
 use Rattle.protocol.specs.declared.Way.TheVariants.{Down, Up}
-use Rattle.selectors.specs.Choice.{after_selectors, down_only, up_only, down_read_only, up_read_only, property_form, property_choice, action_choice, command_leads, update_leads, alert_choice, setup, choice_of, form_at}
-use Rattle.selectors.specs.declared.Choice.{Choice}
-use Rattle.selectors.specs.declared.Choice.TheVariants.{Chosen, Refused}
+use Rattle.selectors.specs.Choice.{Choice, after_selectors, down_only, up_only, down_read_only, up_read_only, property_form, property_choice, action_choice, command_leads, update_leads, alert_choice, setup, choice_of, form_at}
+use Rattle.std.specs.Prelude.{Ok, Err}
+use Rattle.protocol.specs.declared.refusal.Refusal.TheVariants as Refusal'
 
 abbrev own : Message → List ℕ → Encoded
 own m opens = encode_form (form_of m) (values_of m) opens
@@ -34,26 +35,23 @@ RightFor way f vs c = (opens : List ℕ) → encode_values way f vs opens ≡ af
 abbrev pub Right : Way → Message → Choice → Type 0
 Right way m c = (opens : List ℕ) → encode way m opens ≡ after_selectors c (own m opens)
 
-pub right_by : (way : Way) (m n : Message) (r c : Choice) → m ≡ n → r ≡ c → Right way n c → Right way m r
-right_by way m n r c e k x = rw (e, k) x
-
 -- ---- types that go one way
 
-one_test : (b : Bool) (x : Encoded) (n p : ℕ) → cond b x (refused n p) ≡ after_selectors (cond b Chosen (Refused n p)) x
-one_test true x n p = refl
-one_test false x n p = refl
+one_test : (b : Bool) (x : Encoded) (p : ℕ) → cond b x (refused 7 p) ≡ after_selectors (cond b (Ok tt) (Err (Refusal'.OutsideList p))) x
+one_test true x p = refl
+one_test false x p = refl
 
 module _ (f : Form) (vs : List Value) (leads : Bool) (place : ℕ) where
   abbrev formed : List ℕ → Encoded
   formed opens = encode_form f vs opens
 
   going_down : ((opens : List ℕ) → encode_values Down f vs opens ≡ cond leads (encode_form f vs opens) (refused 7 place)) → ((opens : List ℕ) → encode_values Up f vs opens ≡ refused 5 2) → (way : Way) → RightFor way f vs (down_only way leads place)
-  going_down here there Down = λ opens. here opens ∙ one_test leads (formed opens) 7 place
+  going_down here there Down = λ opens. here opens ∙ one_test leads (formed opens) place
   going_down here there Up = there
 
   going_up : ((opens : List ℕ) → encode_values Down f vs opens ≡ refused 5 2) → ((opens : List ℕ) → encode_values Up f vs opens ≡ cond leads (encode_form f vs opens) (refused 7 place)) → (way : Way) → RightFor way f vs (up_only way leads place)
   going_up there here Down = there
-  going_up there here Up = λ opens. here opens ∙ one_test leads (formed opens) 7 place
+  going_up there here Up = λ opens. here opens ∙ one_test leads (formed opens) place
 
 -- types that are read only
 
@@ -113,7 +111,7 @@ of_property p o = go (carries o)
 
 tests : (a b s : Bool) (x : Encoded)
     → cond a (cond b (cond s x (refused 7 4)) (refused 7 4)) (refused 7 3)
-    ≡ after_selectors (cond (eqb (cond a (cond b 0 4) 3) 0) (cond s Chosen (Refused 7 4)) (Refused 7 (cond a (cond b 0 4) 3))) x
+    ≡ after_selectors (cond (eqb (cond a (cond b 0 4) 3) 0) (cond s (Ok tt) (Err (Refusal'.OutsideList 4))) (Err (Refusal'.OutsideList (cond a (cond b 0 4) 3)))) x
 tests true true true x = refl
 tests true true false x = refl
 tests true false s x = refl
@@ -135,15 +133,15 @@ property_right f vs one a Up = λ opens. rw (one, ap read_only one) (selectors U
 
 action_right : (vs : List Value) (way : Way) → RightFor way Form.hub_action vs (action_choice way (natural_at vs 0))
 unfolding encode_values types hub_actions
-action_right vs Down = λ opens. one_test (down_action (natural_at vs 0)) (encode_form Form.hub_action vs opens) 7 3
-action_right vs Up = λ opens. one_test (up_action (natural_at vs 0)) (encode_form Form.hub_action vs opens) 7 3
+action_right vs Down = λ opens. one_test (down_action (natural_at vs 0)) (encode_form Form.hub_action vs opens) 3
+action_right vs Up = λ opens. one_test (up_action (natural_at vs 0)) (encode_form Form.hub_action vs opens) 3
 
-two_tests : (a b : Bool) (x : Encoded) → cond a (cond b x (refused 7 4)) (refused 7 3) ≡ after_selectors (cond a (cond b Chosen (Refused 7 4)) (Refused 7 3)) x
+two_tests : (a b : Bool) (x : Encoded) → cond a (cond b x (refused 7 4)) (refused 7 3) ≡ after_selectors (cond a (cond b (Ok tt) (Err (Refusal'.OutsideList 4))) (Err (Refusal'.OutsideList 3))) x
 two_tests true true x = refl
 two_tests true false x = refl
 two_tests false b x = refl
 
-no_form : (a b : Bool) (x : Encoded) → cond a (cond b (refused 7 4) (refused 7 4)) (refused 7 3) ≡ after_selectors (cond a (Refused 7 4) (Refused 7 3)) x
+no_form : (a b : Bool) (x : Encoded) → cond a (cond b (refused 7 4) (refused 7 4)) (refused 7 3) ≡ after_selectors (cond a (Err (Refusal'.OutsideList 4)) (Err (Refusal'.OutsideList 3))) x
 no_form true true x = refl
 no_form true false x = refl
 no_form false b x = refl
@@ -499,21 +497,21 @@ message_right m way = selects (form_of m) (values_of m) (ap (λ (n : Message). a
 pub by_choice : (way : Way) (m : Message) (opens : List ℕ) (r c : Choice) → Right way m r → r ≡ c → encode way m opens ≡ after_selectors c (own m opens)
 by_choice way m opens r c x e = x opens ∙ ap (λ (k : Choice). after_selectors k (own m opens)) e
 
-pub chosen : (way : Way) (m : Message) (opens : List ℕ) (r : Choice) → Right way m r → r ≡ Chosen → encode way m opens ≡ own m opens
-chosen way m opens r x e = by_choice way m opens r Chosen x e
+pub chosen : (way : Way) (m : Message) (opens : List ℕ) (r : Choice) → Right way m r → r ≡ Ok tt → encode way m opens ≡ own m opens
+chosen way m opens r x e = by_choice way m opens r (Ok tt) x e
 
 -- ---- by the number of a form
 
-pub numbered : (n k : ℕ) (way : Way) (a b c : ℕ) (r : Choice) → n ≡ k → r ≡ choice_of (form_at k) way a b c → r ≡ choice_of (form_at n) way a b c
-numbered n k way a b c r e x = x ∙ ap (λ (j : ℕ). choice_of (form_at j) way a b c) (sym e)
+-- of a form that goes up and has no selector
+pub up_alone : (n : ℕ) (way : Way) (a b c : ℕ) → one_of (14 ∷ 30 ∷ 31 ∷ 38 ∷ 41 ∷ 42 ∷ []) n ≡ true → up_only way true 0 ≡ choice_of (form_at n) way a b c
+unfolding form_at
+up_alone n way a b c h = grind (arith, nat_tests)
 
--- something holds of the form of a number, if it does of each that may have it
-module _ (P : Form → Type 0) (n : ℕ) where
-  abbrev pub Each : ℕ → List Form → Type 0
-  Each i [] = Unit {0}
-  Each i (f ∷ fs) = (n ≡ i → P f) × Each (suc i) fs
-
-  pub each_found : (d : Form) → P d → (fs : List Form) (i k : ℕ) → n ≡ i + k → Each i fs → P (get_or fs k d)
-  each_found d p [] i k e t = p
-  each_found d p (f ∷ fs) i zero e t = t.0 (omega arith)
-  each_found d p (f ∷ fs) i (suc k) e t = each_found d p fs (suc i) k (omega arith) t.1
+-- of one that goes down and has none, or of a number that is no form's
+pub down_alone : (n : ℕ) (way : Way) (a b c : ℕ) → (one_of (0 ∷ 15 ∷ 19 ∷ 20 ∷ 21 ∷ []) n || leb 43 n) ≡ true → down_only way true 0 ≡ choice_of (form_at n) way a b c
+unfolding form_at
+down_alone n way a b c h =
+    ⊎_elim
+    (λ (past : leb 43 n ≡ true). ap (λ (f : Form). choice_of f way a b c) (sym (get_or-eq_default (forms_by 0) Form.go_into_boot_mode {n = n} (grind (arith, nat_tests)))))
+    (λ (here : leb 43 n ≡ false). grind (arith, nat_tests))
+    (which (leb 43 n))

@@ -1,5 +1,5 @@
 -- What comes of a form's way and selectors: 5, 23, 7, or the form itself.
-use Rattle.std.specs.Prelude.{ℕ, Bool, true, false, cond, [], ◌∷◌, eqb, get_or}
+use Rattle.std.specs.Prelude.{ℕ, Bool, true, false, cond, [], ◌∷◌, eqb, get_or, Result, Ok, Err}
 use Rattle.protocol.specs.Rule.{Rule, between, one_of, either}
 use Rattle.protocol.specs.Properties.{carries, outside_selector}
 use Rattle.protocol.specs.Form.{Form, form_number, forms_by}
@@ -7,30 +7,44 @@ use Rattle.protocol.specs.Types.{payload, down_action, up_action}
 use Rattle.protocol.specs.Encode.{Encoded, refused}
 use Rattle.protocol.specs.declared.Way.{Way}
 use Rattle.protocol.specs.declared.Way.TheVariants.{Down, Up}
-use Rattle.selectors.specs.declared.Choice.{Choice}
-use Rattle.selectors.specs.declared.Choice.TheVariants.{Chosen, Refused}
+use Rattle.protocol.specs.declared.refusal.Refusal.{Refusal}
+use Rattle.protocol.specs.declared.refusal.Refusal.TheVariants as Refusal'
+use Rattle.protocol.specs.Refusal.{number_of, place_of}
+
+-- nothing where it is the form itself
+abbrev pub Choice : Type 0
+Choice = Result (Unit {0}) Refusal
 
 abbrev pub after_selectors : Choice → Encoded → Encoded
-after_selectors Chosen x = x
-after_selectors (Refused number place) x = refused number place
+after_selectors (Ok t) x = x
+after_selectors (Err r) x = refused (number_of r) (place_of r)
 
 -- a type that goes one way, where the selector at a place leads to the form or not
 abbrev pub down_only : Way → Bool → ℕ → Choice
-down_only Down leads place = cond leads Chosen (Refused 7 place)
-down_only Up leads place = Refused 5 2
+down_only Down leads place = cond leads (Ok tt) (Err (Refusal'.OutsideList place))
+down_only Up leads place = Err Refusal'.UnknownType
 
 abbrev pub up_only : Way → Bool → ℕ → Choice
-up_only Down leads place = Refused 5 2
-up_only Up leads place = cond leads Chosen (Refused 7 place)
+up_only Down leads place = Err Refusal'.UnknownType
+up_only Up leads place = cond leads (Ok tt) (Err (Refusal'.OutsideList place))
 
 -- a type that goes one way and is read only
 abbrev pub down_read_only : Way → Choice
-down_read_only Down = Refused 23 0
-down_read_only Up = Refused 5 2
+down_read_only Down = Err Refusal'.ReadOnly
+down_read_only Up = Err Refusal'.UnknownType
 
 abbrev pub up_read_only : Way → Choice
-up_read_only Down = Refused 5 2
-up_read_only Up = Refused 23 0
+up_read_only Down = Err Refusal'.UnknownType
+up_read_only Up = Err Refusal'.ReadOnly
+
+-- by the way that it goes
+abbrev pub one_way : Way → Way → Bool → ℕ → Choice
+one_way Down = down_only
+one_way Up = up_only
+
+abbrev pub read_only_one_way : Way → Way → Choice
+read_only_one_way Down = down_read_only
+read_only_one_way Up = up_read_only
 
 -- the form that a property and an operation lead to
 unfoldable pub property_form : ℕ → ℕ → Form
@@ -39,15 +53,15 @@ property_form property operation = cond (carries operation) (payload property) F
 abbrev pub property_choice : Way → ℕ → ℕ → ℕ → Choice
 property_choice way property operation form =
     cond (eqb (outside_selector way property operation) 0)
-    (cond (eqb (form_number (property_form property operation)) form) Chosen (Refused 7 4))
-    (Refused 7 (outside_selector way property operation))
+    (cond (eqb (form_number (property_form property operation)) form) (Ok tt) (Err (Refusal'.OutsideList 4)))
+    (Err (Refusal'.OutsideList (outside_selector way property operation)))
 
 abbrev pub is_action : Way → ℕ → Bool
 is_action Down action = down_action action
 is_action Up action = up_action action
 
 abbrev pub action_choice : Way → ℕ → Choice
-action_choice way action = cond (is_action way action) Chosen (Refused 7 3)
+action_choice way action = cond (is_action way action) (Ok tt) (Err (Refusal'.OutsideList 3))
 
 abbrev pub command_leads : Way → ℕ → Bool
 command_leads Down operation = between 1 3 operation
@@ -57,8 +71,13 @@ abbrev pub update_leads : Way → ℕ → Bool
 update_leads Down operation = false
 update_leads Up operation = one_of (4 ∷ []) operation
 
+-- by the way that the form goes
+abbrev pub alert_leads : Way → Way → ℕ → Bool
+alert_leads Down = command_leads
+alert_leads Up = update_leads
+
 abbrev pub alert_choice : ℕ → Bool → Choice
-alert_choice alert leads = cond (between 1 4 alert) (cond leads Chosen (Refused 7 4)) (Refused 7 3)
+alert_choice alert leads = cond (between 1 4 alert) (cond leads (Ok tt) (Err (Refusal'.OutsideList 4))) (Err (Refusal'.OutsideList 3))
 
 -- the sub commands of a 42 without a list
 abbrev pub setup : Rule

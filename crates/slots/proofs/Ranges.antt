@@ -8,6 +8,7 @@ use lib.Dec.{leb, ltb}
 use lib.IntN.{ℤ, pos, negsuc}
 use lib.Ieee.{binary32, to_bits}
 use lib.Ieee as Ieee
+use Rattle.std.specs.Float.{float_is_finite}
 use lib.ListN.{length, length-reverse}
 use lib.Signed.{mag}
 use mir.Syntax.{Width}
@@ -51,6 +52,13 @@ slot_test (Slot'.StartByte v) = start_byte v
 slot_test (Slot'.EndState v) = end_state v
 slot_test (Slot'.SignedSpeed v) = signed_speed v
 slot_test (Slot'.Degrees v) = degrees v
+
+-- std's test of a float
+pub finite_same : (x : Ieee.Float) → float_is_finite x ≡ is_finite x
+unfolding float_is_finite
+finite_same Ieee.nan = refl
+finite_same (Ieee.inf s) = refl
+finite_same (Ieee.fin s m e) = refl
 
 numbered : (n most : ℕ) (rest : Bool) → n < most → (ltb n most && rest) ≡ rest
 numbered n most rest h = rw (lt-ltb n most h)

@@ -7,7 +7,6 @@ use mathlib.Core.List.{List, [], ◌∷◌}
 use mathlib.Core.Logic.{⊎_elim}
 use borrow.Author.Tests.{leb-true, leb-false, lt-ltb}
 use lib.Dec.{leb, ltb}
-use lib.ListN.{replicate}
 use Rattle.protocol.proofs.Tests.{which}
 use Rattle.protocol.specs.Form.{layout}
 use Rattle.protocol.specs.declared.Combinations.{Combinations}
@@ -64,14 +63,3 @@ module _ (port e0 e1 e2 e3 e4 e5 e6 e7 : ℕ) where
 
 pub combination_slots : (port : ℕ) (k : Combinations) → Slotted (Message'.PortCombinations port k) (word_row port k.entry0 k.entry1 k.entry2 k.entry3 k.entry4 k.entry5 k.entry6 k.entry7 k.count)
 combination_slots port k = any_count port k.entry0 k.entry1 k.entry2 k.entry3 k.entry4 k.entry5 k.entry6 k.entry7 k.count
-
--- slots and a message that are known by equations
-pub slotted : {m n : Message} {r s : List Slot} → m ≡ n → r ≡ s → Slotted n s → Slotted m r
-slotted e k x = rw (e, k) x
-
--- 0x43, information type 1, over plain numbers: its last two fields are of one kind
-pub mode_slots : {m : Message} {r : List Slot} (port capabilities count input output : ℕ) → m ≡ Message'.PortModes port capabilities count input output
-    → r ≡ Slot'.Byte 0x43 ∷ Slot'.Byte port ∷ Slot'.Byte 1 ∷ Slot'.UpTo 15 capabilities ∷ Slot'.Byte count ∷ Slot'.Word input ∷ Slot'.Word output ∷ replicate 4 Slot'.Nothing
-    → Slotted m r
-unfolding layout
-mode_slots port capabilities count input output e k = slotted e k (record { eleven = refl; fields = refl; values = refl })

@@ -1,5 +1,5 @@
 // The fields of each form with their values, from the type byte on.
-ghost use Rattle.std.specs.Prelude.{◌≡◌, ◌∷◌, replicate};
+ghost use Rattle.std.specs.Prelude.{◌≡◌, ◌≤◌, ◌-◌, ◌∷◌, ◌++◌, length, replicate};
 ghost use Rattle.protocol.specs.declared.Message.TheVariants as Message';
 ghost use Rattle.slots.specs.declared.Slot.TheVariants as Slot';
 ghost use Rattle.slots.specs.Slot.{Slotted, word_slot};
@@ -8,197 +8,19 @@ use crate::Slot;
 use hub_messages::property::greatest;
 use protocol::{Combinations, Message};
 
-// A message of so many fields; nothing stands in the slots that are left.
-fn row0(code: u8) -> [Slot; 11]
-    ensures { result ≡ Slot'.Byte code ∷ replicate 10 Slot'.Nothing }
+// A message of these fields; nothing stands in the slots that are left.
+fn row(code: u8, fields: &[Slot]) -> [Slot; 11]
+    requires { length fields.now ≤ 10 }
+    ensures { result ≡ Slot'.Byte code ∷ (fields.now ++ replicate (10 - length fields.now) Slot'.Nothing) }
 {
-    [
-        Slot::Byte(code),
-        Slot::Nothing,
-        Slot::Nothing,
-        Slot::Nothing,
-        Slot::Nothing,
-        Slot::Nothing,
-        Slot::Nothing,
-        Slot::Nothing,
-        Slot::Nothing,
-        Slot::Nothing,
-        Slot::Nothing,
-    ]
-}
-
-fn row1(code: u8, a: Slot) -> [Slot; 11]
-    ensures { result ≡ Slot'.Byte code ∷ a ∷ replicate 9 Slot'.Nothing }
-{
-    [
-        Slot::Byte(code),
-        a,
-        Slot::Nothing,
-        Slot::Nothing,
-        Slot::Nothing,
-        Slot::Nothing,
-        Slot::Nothing,
-        Slot::Nothing,
-        Slot::Nothing,
-        Slot::Nothing,
-        Slot::Nothing,
-    ]
-}
-
-fn row2(code: u8, a: Slot, b: Slot) -> [Slot; 11]
-    ensures { result ≡ Slot'.Byte code ∷ a ∷ b ∷ replicate 8 Slot'.Nothing }
-{
-    [
-        Slot::Byte(code),
-        a,
-        b,
-        Slot::Nothing,
-        Slot::Nothing,
-        Slot::Nothing,
-        Slot::Nothing,
-        Slot::Nothing,
-        Slot::Nothing,
-        Slot::Nothing,
-        Slot::Nothing,
-    ]
-}
-
-fn row3(code: u8, a: Slot, b: Slot, c: Slot) -> [Slot; 11]
-    ensures { result ≡ Slot'.Byte code ∷ a ∷ b ∷ c ∷ replicate 7 Slot'.Nothing }
-{
-    [
-        Slot::Byte(code),
-        a,
-        b,
-        c,
-        Slot::Nothing,
-        Slot::Nothing,
-        Slot::Nothing,
-        Slot::Nothing,
-        Slot::Nothing,
-        Slot::Nothing,
-        Slot::Nothing,
-    ]
-}
-
-fn row4(code: u8, a: Slot, b: Slot, c: Slot, d: Slot) -> [Slot; 11]
-    ensures { result ≡ Slot'.Byte code ∷ a ∷ b ∷ c ∷ d ∷ replicate 6 Slot'.Nothing }
-{
-    [
-        Slot::Byte(code),
-        a,
-        b,
-        c,
-        d,
-        Slot::Nothing,
-        Slot::Nothing,
-        Slot::Nothing,
-        Slot::Nothing,
-        Slot::Nothing,
-        Slot::Nothing,
-    ]
-}
-
-fn row5(code: u8, a: Slot, b: Slot, c: Slot, d: Slot, e: Slot) -> [Slot; 11]
-    ensures { result ≡ Slot'.Byte code ∷ a ∷ b ∷ c ∷ d ∷ e ∷ replicate 5 Slot'.Nothing }
-{
-    [
-        Slot::Byte(code),
-        a,
-        b,
-        c,
-        d,
-        e,
-        Slot::Nothing,
-        Slot::Nothing,
-        Slot::Nothing,
-        Slot::Nothing,
-        Slot::Nothing,
-    ]
-}
-
-fn row6(code: u8, a: Slot, b: Slot, c: Slot, d: Slot, e: Slot, f: Slot) -> [Slot; 11]
-    ensures { result ≡ Slot'.Byte code ∷ a ∷ b ∷ c ∷ d ∷ e ∷ f ∷ replicate 4 Slot'.Nothing }
-{
-    [
-        Slot::Byte(code),
-        a,
-        b,
-        c,
-        d,
-        e,
-        f,
-        Slot::Nothing,
-        Slot::Nothing,
-        Slot::Nothing,
-        Slot::Nothing,
-    ]
-}
-
-fn row7(code: u8, a: Slot, b: Slot, c: Slot, d: Slot, e: Slot, f: Slot, g: Slot) -> [Slot; 11]
-    ensures { result ≡ Slot'.Byte code ∷ a ∷ b ∷ c ∷ d ∷ e ∷ f ∷ g ∷ replicate 3 Slot'.Nothing }
-{
-    [
-        Slot::Byte(code),
-        a,
-        b,
-        c,
-        d,
-        e,
-        f,
-        g,
-        Slot::Nothing,
-        Slot::Nothing,
-        Slot::Nothing,
-    ]
-}
-
-fn row8(
-    code: u8,
-    a: Slot,
-    b: Slot,
-    c: Slot,
-    d: Slot,
-    e: Slot,
-    f: Slot,
-    g: Slot,
-    h: Slot,
-) -> [Slot; 11]
-    ensures { result ≡ Slot'.Byte code ∷ a ∷ b ∷ c ∷ d ∷ e ∷ f ∷ g ∷ h ∷ replicate 2 Slot'.Nothing }
-{
-    [
-        Slot::Byte(code),
-        a,
-        b,
-        c,
-        d,
-        e,
-        f,
-        g,
-        h,
-        Slot::Nothing,
-        Slot::Nothing,
-    ]
-}
-
-fn row9(
-    code: u8,
-    a: Slot,
-    b: Slot,
-    c: Slot,
-    d: Slot,
-    e: Slot,
-    f: Slot,
-    g: Slot,
-    h: Slot,
-    i: Slot,
-) -> [Slot; 11]
-    ensures { result ≡ Slot'.Byte code ∷ a ∷ b ∷ c ∷ d ∷ e ∷ f ∷ g ∷ h ∷ i ∷ replicate 1 Slot'.Nothing }
-{
-    [Slot::Byte(code), a, b, c, d, e, f, g, h, i, Slot::Nothing]
+    let mut slots = [Slot::Nothing; 11];
+    slots[0] = Slot::Byte(code);
+    slots[1..=fields.len()].copy_from_slice(fields);
+    slots
 }
 
 // The entry at an index of a 43's list; nothing from its count on.
+#[tactic(auto, using(std::proofs::lemmas::Bool::Decides::nat_tests))]
 fn word(index: u8, count: u8, entry: u16) -> Slot
     ensures { result ≡ word_slot index count entry }
 {
@@ -209,7 +31,7 @@ fn word(index: u8, count: u8, entry: u16) -> Slot
     }
 }
 
-// 0x43, information type 2.
+// 0x43, information type 2. The entries are fields of their own (protocol), so each has its line.
 fn combination_row(port: u8, c: Combinations) -> [Slot; 11]
     ensures { Slotted (Message'.PortCombinations port c) result }
 {
@@ -229,6 +51,7 @@ fn combination_row(port: u8, c: Combinations) -> [Slot; 11]
 }
 
 // The slots of a message, from its type byte on.
+#[tactic(auto, using(crate::proofs::Ranges::same), unfolding(protocol::specs::Form::layout))]
 pub fn slots_of(m: Message) -> [Slot; 11]
     ensures { Slotted m result }
 {
@@ -236,146 +59,157 @@ pub fn slots_of(m: Message) -> [Slot; 11]
         Message::PropertyCommand {
             property,
             operation,
-        } => row2(0x01, Slot::Byte(property), Slot::Byte(operation)),
+        } => row(0x01, &[Slot::Byte(property), Slot::Byte(operation)]),
         Message::PropertyText {
             property,
             operation,
-        } => row2(0x01, Slot::Byte(property), Slot::Byte(operation)),
+        } => row(0x01, &[Slot::Byte(property), Slot::Byte(operation)]),
         Message::PropertyByte {
             property,
             operation,
             value,
-        } => row3(
+        } => row(
             0x01,
-            Slot::Byte(property),
-            Slot::Byte(operation),
-            Slot::UpTo {
-                most: greatest(property),
-                value,
-            },
+            &[
+                Slot::Byte(property),
+                Slot::Byte(operation),
+                Slot::UpTo {
+                    most: greatest(property),
+                    value,
+                },
+            ],
         ),
-        Message::PropertyRssi { operation, rssi } => row3(
+        Message::PropertyRssi { operation, rssi } => row(
             0x01,
-            Slot::Byte(5),
-            Slot::Byte(operation),
-            Slot::SignedByte(rssi),
+            &[Slot::Byte(5), Slot::Byte(operation), Slot::SignedByte(rssi)],
         ),
         Message::PropertyVersion {
             property,
             operation,
             version,
-        } => row3(
+        } => row(
             0x01,
-            Slot::Byte(property),
-            Slot::Byte(operation),
-            Slot::SignedLong(version),
+            &[
+                Slot::Byte(property),
+                Slot::Byte(operation),
+                Slot::SignedLong(version),
+            ],
         ),
-        Message::PropertyProtocol { operation, version } => row3(
+        Message::PropertyProtocol { operation, version } => row(
             0x01,
-            Slot::Byte(10),
-            Slot::Byte(operation),
-            Slot::Word(version),
+            &[Slot::Byte(10), Slot::Byte(operation), Slot::Word(version)],
         ),
         Message::PropertyAddress {
             property,
             operation,
             address,
-        } => row3(
+        } => row(
             0x01,
-            Slot::Byte(property),
-            Slot::Byte(operation),
-            Slot::HighFirst(address),
+            &[
+                Slot::Byte(property),
+                Slot::Byte(operation),
+                Slot::HighFirst(address),
+            ],
         ),
-        Message::HubAction { action } => row1(0x02, Slot::Byte(action)),
-        Message::AlertCommand { alert, operation } => row2(
+        Message::HubAction { action } => row(0x02, &[Slot::Byte(action)]),
+        Message::AlertCommand { alert, operation } => row(
             0x03,
-            Slot::Byte(alert),
-            Slot::Byte(operation),
+            &[Slot::Byte(alert), Slot::Byte(operation)],
         ),
-        Message::AlertUpdate { alert, status } => row3(
+        Message::AlertUpdate { alert, status } => row(
             0x03,
-            Slot::Byte(alert),
-            Slot::Byte(4),
-            Slot::AlertStatus(status),
+            &[Slot::Byte(alert), Slot::Byte(4), Slot::AlertStatus(status)],
         ),
-        Message::Detached { port } => row2(0x04, Slot::Byte(port), Slot::Byte(0)),
+        Message::Detached { port } => row(0x04, &[Slot::Byte(port), Slot::Byte(0)]),
         Message::Attached {
             port,
             device,
             hardware,
             software,
-        } => row5(
+        } => row(
             0x04,
-            Slot::Byte(port),
-            Slot::Byte(1),
-            Slot::Word(device),
-            Slot::SignedLong(hardware),
-            Slot::SignedLong(software),
+            &[
+                Slot::Byte(port),
+                Slot::Byte(1),
+                Slot::Word(device),
+                Slot::SignedLong(hardware),
+                Slot::SignedLong(software),
+            ],
         ),
         Message::AttachedVirtual {
             port,
             device,
             port_a,
             port_b,
-        } => row5(
+        } => row(
             0x04,
-            Slot::Byte(port),
-            Slot::Byte(2),
-            Slot::Word(device),
-            Slot::Byte(port_a),
-            Slot::Byte(port_b),
+            &[
+                Slot::Byte(port),
+                Slot::Byte(2),
+                Slot::Word(device),
+                Slot::Byte(port_a),
+                Slot::Byte(port_b),
+            ],
         ),
-        Message::GenericError { command, error } => row2(
+        Message::GenericError { command, error } => row(
             0x05,
-            Slot::Byte(command),
-            Slot::Between {
-                least: 1,
-                most: 8,
-                value: error,
-            },
+            &[
+                Slot::Byte(command),
+                Slot::Between {
+                    least: 1,
+                    most: 8,
+                    value: error,
+                },
+            ],
         ),
-        Message::GoIntoBootMode => row1(0x10, Slot::BootString),
-        Message::LockMemory => row1(0x11, Slot::LockString),
-        Message::LockStatusRequest => row0(0x12),
-        Message::LockStatus { status } => row1(0x13, Slot::Byte(status)),
-        Message::PortInformationRequest { port, information } => row2(
+        Message::GoIntoBootMode => row(0x10, &[Slot::BootString]),
+        Message::LockMemory => row(0x11, &[Slot::LockString]),
+        Message::LockStatusRequest => row(0x12, &[]),
+        Message::LockStatus { status } => row(0x13, &[Slot::Byte(status)]),
+        Message::PortInformationRequest { port, information } => row(
             0x21,
-            Slot::Byte(port),
-            Slot::UpTo {
-                most: 2,
-                value: information,
-            },
+            &[
+                Slot::Byte(port),
+                Slot::UpTo {
+                    most: 2,
+                    value: information,
+                },
+            ],
         ),
         Message::ModeInformationRequest {
             port,
             mode,
             information,
-        } => row3(
+        } => row(
             0x22,
-            Slot::Byte(port),
-            Slot::UpTo {
-                most: 15,
-                value: mode,
-            },
-            Slot::InformationType(information),
+            &[
+                Slot::Byte(port),
+                Slot::UpTo {
+                    most: 15,
+                    value: mode,
+                },
+                Slot::InformationType(information),
+            ],
         ),
         Message::InputFormatSetup {
             port,
             mode,
             delta,
             notify,
-        } => row4(
+        } => row(
             0x41,
-            Slot::Byte(port),
-            Slot::UpTo {
-                most: 15,
-                value: mode,
-            },
-            Slot::Long(delta),
-            Slot::UpTo {
-                most: 1,
-                value: notify,
-            },
+            &[
+                Slot::Byte(port),
+                Slot::UpTo {
+                    most: 15,
+                    value: mode,
+                },
+                Slot::Long(delta),
+                Slot::UpTo {
+                    most: 1,
+                    value: notify,
+                },
+            ],
         ),
         Message::PortModes {
             port,
@@ -383,31 +217,35 @@ pub fn slots_of(m: Message) -> [Slot; 11]
             mode_count,
             input_modes,
             output_modes,
-        } => row6(
+        } => row(
             0x43,
-            Slot::Byte(port),
-            Slot::Byte(1),
-            Slot::UpTo {
-                most: 15,
-                value: capabilities,
-            },
-            Slot::Byte(mode_count),
-            Slot::Word(input_modes),
-            Slot::Word(output_modes),
+            &[
+                Slot::Byte(port),
+                Slot::Byte(1),
+                Slot::UpTo {
+                    most: 15,
+                    value: capabilities,
+                },
+                Slot::Byte(mode_count),
+                Slot::Word(input_modes),
+                Slot::Word(output_modes),
+            ],
         ),
         Message::PortCombinations { port, combinations } => combination_row(port, combinations),
         Message::ModeText {
             port,
             mode,
             information,
-        } => row3(
+        } => row(
             0x44,
-            Slot::Byte(port),
-            Slot::UpTo {
-                most: 15,
-                value: mode,
-            },
-            Slot::Byte(information),
+            &[
+                Slot::Byte(port),
+                Slot::UpTo {
+                    most: 15,
+                    value: mode,
+                },
+                Slot::Byte(information),
+            ],
         ),
         Message::ModeRange {
             port,
@@ -415,53 +253,61 @@ pub fn slots_of(m: Message) -> [Slot; 11]
             information,
             lowest,
             highest,
-        } => row5(
+        } => row(
             0x44,
-            Slot::Byte(port),
-            Slot::UpTo {
-                most: 15,
-                value: mode,
-            },
-            Slot::Byte(information),
-            Slot::Float(lowest),
-            Slot::Float(highest),
+            &[
+                Slot::Byte(port),
+                Slot::UpTo {
+                    most: 15,
+                    value: mode,
+                },
+                Slot::Byte(information),
+                Slot::Float(lowest),
+                Slot::Float(highest),
+            ],
         ),
         Message::ModeMapping {
             port,
             mode,
             mapping,
-        } => row4(
+        } => row(
             0x44,
-            Slot::Byte(port),
-            Slot::UpTo {
-                most: 15,
-                value: mode,
-            },
-            Slot::Byte(5),
-            Slot::Word(mapping),
+            &[
+                Slot::Byte(port),
+                Slot::UpTo {
+                    most: 15,
+                    value: mode,
+                },
+                Slot::Byte(5),
+                Slot::Word(mapping),
+            ],
         ),
-        Message::ModeBias { port, mode, bias } => row4(
+        Message::ModeBias { port, mode, bias } => row(
             0x44,
-            Slot::Byte(port),
-            Slot::UpTo {
-                most: 15,
-                value: mode,
-            },
-            Slot::Byte(7),
-            Slot::UpTo {
-                most: 100,
-                value: bias,
-            },
+            &[
+                Slot::Byte(port),
+                Slot::UpTo {
+                    most: 15,
+                    value: mode,
+                },
+                Slot::Byte(7),
+                Slot::UpTo {
+                    most: 100,
+                    value: bias,
+                },
+            ],
         ),
-        Message::ModeCapabilities { port, mode, bits } => row4(
+        Message::ModeCapabilities { port, mode, bits } => row(
             0x44,
-            Slot::Byte(port),
-            Slot::UpTo {
-                most: 15,
-                value: mode,
-            },
-            Slot::Byte(8),
-            Slot::HighFirst(bits),
+            &[
+                Slot::Byte(port),
+                Slot::UpTo {
+                    most: 15,
+                    value: mode,
+                },
+                Slot::Byte(8),
+                Slot::HighFirst(bits),
+            ],
         ),
         Message::ValueFormat {
             port,
@@ -470,51 +316,53 @@ pub fn slots_of(m: Message) -> [Slot; 11]
             kind,
             figures,
             decimals,
-        } => row7(
+        } => row(
             0x44,
-            Slot::Byte(port),
-            Slot::UpTo {
-                most: 15,
-                value: mode,
-            },
-            Slot::Byte(0x80),
-            Slot::Between {
-                least: 1,
-                most: 16,
-                value: datasets,
-            },
-            Slot::UpTo {
-                most: 3,
-                value: kind,
-            },
-            Slot::Byte(figures),
-            Slot::Byte(decimals),
+            &[
+                Slot::Byte(port),
+                Slot::UpTo {
+                    most: 15,
+                    value: mode,
+                },
+                Slot::Byte(0x80),
+                Slot::Between {
+                    least: 1,
+                    most: 16,
+                    value: datasets,
+                },
+                Slot::UpTo {
+                    most: 3,
+                    value: kind,
+                },
+                Slot::Byte(figures),
+                Slot::Byte(decimals),
+            ],
         ),
-        Message::PortValue { port } => row1(0x45, Slot::Byte(port)),
+        Message::PortValue { port } => row(0x45, &[Slot::Byte(port)]),
         Message::InputFormat {
             port,
             mode,
             delta,
             notify,
-        } => row4(
+        } => row(
             0x47,
-            Slot::Byte(port),
-            Slot::UpTo {
-                most: 15,
-                value: mode,
-            },
-            Slot::Long(delta),
-            Slot::UpTo {
-                most: 1,
-                value: notify,
-            },
+            &[
+                Slot::Byte(port),
+                Slot::UpTo {
+                    most: 15,
+                    value: mode,
+                },
+                Slot::Long(delta),
+                Slot::UpTo {
+                    most: 1,
+                    value: notify,
+                },
+            ],
         ),
-        Message::VirtualDisconnect { port } => row2(0x61, Slot::Byte(0), Slot::Byte(port)),
-        Message::VirtualConnect { port_a, port_b } => row3(
+        Message::VirtualDisconnect { port } => row(0x61, &[Slot::Byte(0), Slot::Byte(port)]),
+        Message::VirtualConnect { port_a, port_b } => row(
             0x61,
-            Slot::Byte(1),
-            Slot::Byte(port_a),
-            Slot::Byte(port_b),
+            &[Slot::Byte(1), Slot::Byte(port_a), Slot::Byte(port_b)],
         ),
         Message::StartSpeedForDegrees {
             port,
@@ -525,23 +373,25 @@ pub fn slots_of(m: Message) -> [Slot; 11]
             power,
             end_state,
             profile,
-        } => row9(
+        } => row(
             0x81,
-            Slot::Byte(port),
-            Slot::StartByte(start),
-            Slot::Byte(0x0C),
-            Slot::Degrees(degrees),
-            Slot::SignedSpeed(speed_left),
-            Slot::SignedSpeed(speed_right),
-            Slot::UpTo {
-                most: 100,
-                value: power,
-            },
-            Slot::EndState(end_state),
-            Slot::UpTo {
-                most: 3,
-                value: profile,
-            },
+            &[
+                Slot::Byte(port),
+                Slot::StartByte(start),
+                Slot::Byte(0x0C),
+                Slot::Degrees(degrees),
+                Slot::SignedSpeed(speed_left),
+                Slot::SignedSpeed(speed_right),
+                Slot::UpTo {
+                    most: 100,
+                    value: power,
+                },
+                Slot::EndState(end_state),
+                Slot::UpTo {
+                    most: 3,
+                    value: profile,
+                },
+            ],
         ),
         Message::GotoAbsolutePosition {
             port,
@@ -551,26 +401,28 @@ pub fn slots_of(m: Message) -> [Slot; 11]
             power,
             end_state,
             profile,
-        } => row8(
+        } => row(
             0x81,
-            Slot::Byte(port),
-            Slot::StartByte(start),
-            Slot::Byte(0x0D),
-            Slot::SignedLong(position),
-            Slot::Between {
-                least: 1,
-                most: 100,
-                value: speed,
-            },
-            Slot::UpTo {
-                most: 100,
-                value: power,
-            },
-            Slot::EndState(end_state),
-            Slot::UpTo {
-                most: 3,
-                value: profile,
-            },
+            &[
+                Slot::Byte(port),
+                Slot::StartByte(start),
+                Slot::Byte(0x0D),
+                Slot::SignedLong(position),
+                Slot::Between {
+                    least: 1,
+                    most: 100,
+                    value: speed,
+                },
+                Slot::UpTo {
+                    most: 100,
+                    value: power,
+                },
+                Slot::EndState(end_state),
+                Slot::UpTo {
+                    most: 3,
+                    value: profile,
+                },
+            ],
         ),
         Message::GotoAbsolutePositions {
             port,
@@ -581,63 +433,63 @@ pub fn slots_of(m: Message) -> [Slot; 11]
             power,
             end_state,
             profile,
-        } => row9(
+        } => row(
             0x81,
-            Slot::Byte(port),
-            Slot::StartByte(start),
-            Slot::Byte(0x0E),
-            Slot::SignedLong(position_1),
-            Slot::SignedLong(position_2),
-            Slot::Between {
-                least: 1,
-                most: 100,
-                value: speed,
-            },
-            Slot::UpTo {
-                most: 100,
-                value: power,
-            },
-            Slot::EndState(end_state),
-            Slot::UpTo {
-                most: 3,
-                value: profile,
-            },
+            &[
+                Slot::Byte(port),
+                Slot::StartByte(start),
+                Slot::Byte(0x0E),
+                Slot::SignedLong(position_1),
+                Slot::SignedLong(position_2),
+                Slot::Between {
+                    least: 1,
+                    most: 100,
+                    value: speed,
+                },
+                Slot::UpTo {
+                    most: 100,
+                    value: power,
+                },
+                Slot::EndState(end_state),
+                Slot::UpTo {
+                    most: 3,
+                    value: profile,
+                },
+            ],
         ),
         Message::PresetEncoders {
             port,
             start,
             left,
             right,
-        } => row5(
+        } => row(
             0x81,
-            Slot::Byte(port),
-            Slot::StartByte(start),
-            Slot::Byte(0x14),
-            Slot::SignedLong(left),
-            Slot::SignedLong(right),
+            &[
+                Slot::Byte(port),
+                Slot::StartByte(start),
+                Slot::Byte(0x14),
+                Slot::SignedLong(left),
+                Slot::SignedLong(right),
+            ],
         ),
-        Message::OutputFeedback => row0(0x82),
+        Message::OutputFeedback => row(0x82, &[]),
         Message::CombinedSetup { port, sub_command } => {
-            row2(0x42, Slot::Byte(port), Slot::Byte(sub_command))
+            row(0x42, &[Slot::Byte(port), Slot::Byte(sub_command)])
         }
-        Message::ModeDatasets { port, combination } => row3(
+        Message::ModeDatasets { port, combination } => row(
             0x42,
-            Slot::Byte(port),
-            Slot::Byte(1),
-            Slot::Byte(combination),
+            &[Slot::Byte(port), Slot::Byte(1), Slot::Byte(combination)],
         ),
         Message::PortValueCombined { port, pointers } => {
-            row2(0x46, Slot::Byte(port), Slot::Word(pointers))
+            row(0x46, &[Slot::Byte(port), Slot::Word(pointers)])
         }
         Message::InputFormatCombined {
             port,
             control,
             pointers,
-        } => row3(
+        } => row(
             0x48,
-            Slot::Byte(port),
-            Slot::Byte(control),
-            Slot::Word(pointers),
+            &[Slot::Byte(port), Slot::Byte(control), Slot::Word(pointers)],
         ),
     }
 }

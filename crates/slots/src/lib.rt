@@ -4,12 +4,10 @@
 pub mod form;
 
 ghost use Rattle.std.specs.Prelude.{◌≡◌, ◌≤◌, length};
-ghost use Rattle.protocol.specs.Number.{is_finite};
 ghost use Rattle.slots.specs.Slot.{slot_fits, slot_bytes};
 
 use hub_messages::rule::{
-    between, is_alert_status, is_degrees, is_end_state, is_information_type, is_signed_speed,
-    is_start_byte,
+    is_alert_status, is_degrees, is_end_state, is_information_type, is_signed_speed, is_start_byte,
 };
 
 // What stands at one place of a message: a field with its value, a fixed string, or nothing.
@@ -40,36 +38,25 @@ pub enum Slot {
     Degrees(i32),
 }
 
-// Whether an f32 is neither an infinity nor a NaN: its exponent is not all ones.
-fn is_finite(x: f32) -> bool
-    ensures { result ≡ is_finite x }
-{
-    if x == x {
-        f32::to_bits(x) % 2147483648 / 8388608 != 255
-    } else {
-        false
-    }
-}
-
 // Whether the value is in the field's list.
 pub fn fits(slot: Slot) -> bool
     ensures { result ≡ slot_fits slot }
 {
     match slot {
-        Slot::Nothing => true,
-        Slot::Byte(_) => true,
+        Slot::Nothing
+        | Slot::Byte(_)
+        | Slot::Word(_)
+        | Slot::Long(_)
+        | Slot::SignedByte(_)
+        | Slot::SignedLong(_)
+        | Slot::BootString
+        | Slot::LockString => true,
         Slot::UpTo { most, value } => value <= most,
-        Slot::Between { least, most, value } => between(least, value, most),
+        Slot::Between { least, most, value } => (least..=most).contains(&value),
         Slot::InformationType(value) => is_information_type(value),
         Slot::AlertStatus(value) => is_alert_status(value),
-        Slot::Word(_) => true,
-        Slot::Long(_) => true,
-        Slot::SignedByte(_) => true,
-        Slot::SignedLong(_) => true,
         Slot::HighFirst(value) => value < 281474976710656,
-        Slot::Float(x) => is_finite(x),
-        Slot::BootString => true,
-        Slot::LockString => true,
+        Slot::Float(x) => x.is_finite(),
         Slot::StartByte(value) => is_start_byte(value),
         Slot::EndState(value) => is_end_state(value),
         Slot::SignedSpeed(value) => is_signed_speed(value),
@@ -78,31 +65,25 @@ pub fn fits(slot: Slot) -> bool
 }
 
 // How many bytes it takes.
+#[tactic(auto, using(crate::proofs::Ranges::wide))]
 pub fn width(slot: Slot) -> usize
     ensures { (result ≡ length (slot_bytes slot)) × (result ≤ 9) }
 {
     match slot {
         Slot::Nothing => 0,
-        Slot::Byte(_) => 1,
-        Slot::UpTo { most: _, value: _ } => 1,
-        Slot::Between {
-            least: _,
-            most: _,
-            value: _,
-        } => 1,
-        Slot::InformationType(_) => 1,
-        Slot::AlertStatus(_) => 1,
+        Slot::Byte(_)
+        | Slot::UpTo { .. }
+        | Slot::Between { .. }
+        | Slot::InformationType(_)
+        | Slot::AlertStatus(_)
+        | Slot::SignedByte(_)
+        | Slot::StartByte(_)
+        | Slot::EndState(_)
+        | Slot::SignedSpeed(_) => 1,
         Slot::Word(_) => 2,
-        Slot::Long(_) => 4,
-        Slot::SignedByte(_) => 1,
-        Slot::SignedLong(_) => 4,
+        Slot::Long(_) | Slot::SignedLong(_) | Slot::Float(_) | Slot::Degrees(_) => 4,
         Slot::HighFirst(_) => 6,
-        Slot::Float(_) => 4,
-        Slot::BootString => 9,
         Slot::LockString => 8,
-        Slot::StartByte(_) => 1,
-        Slot::EndState(_) => 1,
-        Slot::SignedSpeed(_) => 1,
-        Slot::Degrees(_) => 4,
+        Slot::BootString => 9,
     }
 }

@@ -7,10 +7,12 @@ use mathlib.Core.Bool.{Bool, true, false, cond, not, ◌&&◌, ◌||◌, and-tru
 use mathlib.Core.List.{List, [], ◌∷◌}
 use mathlib.Core.Option.{Option, none, some}
 use mathlib.Core.Logic.{⊎_elim}
-use borrow.Author.Tests.{eqb-true, eq-eqb, ne_eqb, lt-ltb, ltb-true, not-true}
+use borrow.Author.Tests.{eqb-true, eq-eqb, ne_eqb, lt-ltb, le-ltb, ltb-true, not-true}
 use lib.Dec.{eqb, leb, ltb, leb-suc-suc, eqb-suc-zero, eqb-suc-suc}
 use lib.ListN.{length, take, drop, replicate}
 use lib.Pow.{pow_mono}
+use Rattle.std.specs.Prelude.{Result, Ok, Err}
+use Rattle.std.specs.Result.{OkIff, result_unwrap_or}
 use Rattle.protocol.specs.Form.{last_mode, last_notify, most_entries}
 use Rattle.protocol.proofs.Tests.{which, and_right}
 use Rattle.rules.specs.Layout.{mode_count, stride, asked_index, answered_index, list_index, taken_index}
@@ -109,6 +111,11 @@ answered_single_lem place size other =
 pointers_small : (p count : ℕ) → count ≤ most_entries → pointers_fit p count ≡ true → p < 65536
 unfolding pointers_fit
 pointers_small p count few e = lt_of_lt_of_le (ltb-true p (2 ^ count) (and_right (not (eqb p 0)) (ltb p (2 ^ count)) e)) (pow_mono few)
+
+pub pointers_by : {E : Type 0} (n : ℕ) (r : Result ℕ E) → OkIff r (n < 65536) n → result_unwrap_or r 0 ≡ pointers_of n
+unfolding pointers_of
+pointers_by n (Ok p) e = e.1 ∙ sym (ap (λ (b : Bool). cond b n 0) (lt-ltb n 65536 e.0))
+pointers_by n (Err x) large = sym (ap (λ (b : Bool). cond b n 0) (le-ltb n 65536 (omega (arith, large))))
 
 pub as_they_are : (n : ℕ) → n < 65536 → pointers_of n ≡ n
 unfolding pointers_of

@@ -2,6 +2,7 @@ pub mod Answers
 pub mod Bounds
 pub mod ExactCells
 pub mod FactsFit
+pub mod Found
 pub mod Lists
 pub mod Loops
 pub mod Places

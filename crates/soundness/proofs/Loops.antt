@@ -40,14 +40,6 @@ passes {b = b} e k f g = g ∙ f ∙ sym (ap (λ (t : Bool). t && b) (sym e ∙ 
 pub fails : {a x r : Bool} (b : Bool) → x ≡ a → x ≡ false → r ≡ x → r ≡ (a && b)
 fails b e k g = g ∙ k ∙ sym (ap (λ (t : Bool). t && b) (sym e ∙ k))
 
--- and the second of them is two
-
-pub both_pass : {a b c y z : Bool} → a ≡ true → y ≡ b → z ≡ c → (y && z) ≡ (a && b && c)
-both_pass {b = b} {c = c} k e f = (λ i. e i && f i) ∙ sym (ap (λ (t : Bool). t && b && c) k)
-
-pub neither : {a : Bool} (b c : Bool) → a ≡ false → a ≡ (a && b && c)
-neither b c k = k ∙ sym (ap (λ (t : Bool). t && b && c) k)
-
 -- ---- two tests in another order
 
 pub crossed : (a b x y : Bool) → (a && b && (x && y)) ≡ (a && x && (b && y))

@@ -1,3 +1,4 @@
+pub mod Found
 pub mod Place
 pub mod Row
 pub mod Soundness

@@ -3,24 +3,21 @@ ghost use Rattle.std.specs.Prelude.{◌≡◌, length};
 ghost use Rattle.rules.specs.Layout.{stride};
 ghost use Rattle.soundness.specs.Soundness.{all_zeros, exact_wiring};
 
-use rules::layout::{FIRST, JOINED, SECOND, UNJOINED, VIRTUAL, WIRING};
+use rules::layout::{FIRST, JOINED, SECOND, STRIDE, UNJOINED, VIRTUAL, WIRING};
 
 // Whether every cell is 0.
 pub(crate) fn are_zeros(cells: &[u32]) -> bool
     ensures { result ≡ all_zeros cells.now }
 {
     let mut zeros = true;
-    let mut k = 0;
-    while k < cells.len() {
-        zeros = zeros & (cells[k] == 0);
-        k += 1;
+    for cell in cells {
+        zeros &= *cell == 0;
     }
     zeros
 }
 
 // Whether the wiring is one of three, and the partners that it does not have are 0.
-pub(crate) fn exact_wiring(place: &[u32]) -> bool
-    requires { length place.now ≡ stride }
+pub(crate) fn exact_wiring(place: &[u32; STRIDE]) -> bool
     ensures { result ≡ exact_wiring place.now }
 {
     match place[WIRING] {

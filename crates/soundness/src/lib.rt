@@ -1,10 +1,10 @@
 // Whether a slice of cells is a sound table, and where a port's record stands in it. Tests of cells are joined by `&` and
-// `|`, and a loop over the cells of a place goes to its end, so that it needs no branches; what several tests say is joined
-// by `&&`, which costs less than keeping each answer.
+// `|`, and a loop over the cells of a place goes to its end, so that it needs no branches, but for the search for an entry
+// among those before it; what several tests say is joined by `&&`, which costs less than keeping each answer.
 #![tactic(auto)]
 
-ghost use Rattle.std.specs.Prelude.{◌≡◌, ◌<◌, length};
-ghost use Rattle.rules.specs.Layout.{places, stride, table_size};
+ghost use Rattle.std.specs.Prelude.{◌≡◌, ◌<◌};
+ghost use Rattle.rules.specs.Layout.{places};
 ghost use Rattle.rules.specs.Table.{view_of_table};
 ghost use Rattle.rules.specs.Cells.{table_at, sound};
 ghost use Rattle.soundness.specs.Row.{Indexed};
@@ -15,7 +15,7 @@ use crate::place::place_at;
 use crate::record::settings_fit;
 use crate::row::{NOWHERE, ROW, note_all};
 use crate::wiring::wiring_fits;
-use rules::layout::{DEVICE, FREE, PLACES, PORT, PORT_COUNT, TABLE_SIZE, WIRING};
+use rules::layout::{DEVICE, FREE, PLACES, PORT, PORT_COUNT, STRIDE, TABLE_SIZE, WIRING};
 
 mod answer;
 mod exact;
@@ -23,12 +23,13 @@ mod list;
 pub mod place;
 mod record;
 mod row;
+pub mod sound_table;
 mod state;
 mod wiring;
 
 // Whether a record's cells are those of what they stand for, and it fits.
-fn is_sound_record(table: &[u32], row: &[u8], place: &[u32]) -> bool
-    requires { (length table.now ≡ table_size) × Indexed table.now row.now 0 × (length place.now ≡ stride) }
+fn is_sound_record(table: &[u32; TABLE_SIZE], row: &[u8], place: &[u32; STRIDE]) -> bool
+    requires { Indexed table.now row.now 0 }
     ensures { result ≡ sound_record (view_of_table (table_at table.now)) place.now }
 {
     exact_wiring(place)
@@ -38,8 +39,8 @@ fn is_sound_record(table: &[u32], row: &[u8], place: &[u32]) -> bool
 }
 
 // Whether a place is free and empty, or has a sound record. That its port is in no later place was seen with the row.
-fn is_sound_place(table: &[u32], row: &[u8], i: usize) -> bool
-    requires { (length table.now ≡ table_size) × Indexed table.now row.now 0 × (i < places) }
+fn is_sound_place(table: &[u32; TABLE_SIZE], row: &[u8], i: usize) -> bool
+    requires { Indexed table.now row.now 0 × (i < places) }
     ensures { result ≡ sound_place table.now i }
 {
     let place = place_at(table, i);
@@ -53,20 +54,17 @@ fn is_sound_place(table: &[u32], row: &[u8], i: usize) -> bool
 pub fn is_sound(table: &[u32]) -> bool
     ensures { result ≡ sound table.now }
 {
-    let is_other_size = table.len() != TABLE_SIZE;
-    if is_other_size {
+    let Some(table) = table.as_array::<TABLE_SIZE>() else {
         return false;
-    }
+    };
     let mut row = [NOWHERE; ROW];
     if !note_all(table, &mut row) {
         return false;
     }
-    let mut i = 0;
-    while i < PLACES {
+    for i in 0..PLACES {
         if !is_sound_place(table, &row, i) {
             return false;
         }
-        i += 1;
     }
     true
 }

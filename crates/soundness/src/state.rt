@@ -9,8 +9,7 @@ use pointers::name_all;
 use rules::layout::{ANSWERED, ASKED, COMBINED, LIST, STATE, STRIDE, TAKEN};
 
 // Whether what was answered is what was asked: the same setup, or all of the list.
-fn is_as_asked(place: &[u32]) -> bool
-    requires { length place.now ≡ stride }
+fn is_as_asked(place: &[u32; STRIDE]) -> bool
     ensures { result ≡ as_asked place.now }
 {
     if place[ANSWERED] == COMBINED {
@@ -23,8 +22,7 @@ fn is_as_asked(place: &[u32]) -> bool
 }
 
 // The state by an answer that came after the asking.
-fn answer_state(place: &[u32]) -> u32
-    requires { length place.now ≡ stride }
+fn answer_state(place: &[u32; STRIDE]) -> u32
     ensures { result ≡ cond (as_asked place.now) 2 3 }
 {
     if is_as_asked(place) {
@@ -34,8 +32,7 @@ fn answer_state(place: &[u32]) -> u32
 }
 
 // Whether a 0x48, where it is the latest answer, took over the list that is kept.
-fn took_kept(place: &[u32]) -> bool
-    requires { length place.now ≡ stride }
+fn took_kept(place: &[u32; STRIDE]) -> bool
     ensures { result ≡ took_kept place.now }
 {
     if place[ANSWERED] == COMBINED {
@@ -45,8 +42,7 @@ fn took_kept(place: &[u32]) -> bool
 }
 
 // Whether the state goes by its rule.
-pub(crate) fn state_fits(place: &[u32]) -> bool
-    requires { length place.now ≡ stride }
+pub(crate) fn state_fits(place: &[u32; STRIDE]) -> bool
     ensures { result ≡ state_by_cells place.now }
 {
     let state = place[STATE];

@@ -5,8 +5,8 @@ use native.Mathlib.Numerals.{add-one}
 use native.Mathlib.Omega.{arith}
 use mathlib.Core.Path.{◌≡◌, refl, sym, ◌∙◌, ap}
 use mathlib.Core.List.{List, [], ◌∷◌, ◌++◌}
-use lib.ListN.{length, get_or, set, take, drop, length-append, get_or-append}
-use lib.Seq.{paste, paste-zero, paste-suc, length-paste, take_all, sets, sets-eq, get_or-take, length-take-le}
+use lib.ListN.{length, get_or, set, take, drop}
+use lib.Seq.{paste, paste-zero, paste-suc, length-paste, take_all, sets, sets-eq}
 use Rattle.rules.specs.Layout.{stride}
 use Rattle.stores.specs.Stores.{Store, put, stored, cell_stores}
 
@@ -29,15 +29,6 @@ module _ (cells : List ℕ) (at : ℕ) (xs : List ℕ) where
     copied_all h =
         let end : i ≡ length xs = omega (arith, k.0) in
         k.1 ∙ ap (paste cells at xs) end ∙ ap (λ (l : List ℕ). take at cells ++ l ++ drop (at + length xs) cells) (take_all (length xs) xs (omega arith))
-
-    -- the cells before them stay
-    pub copied_before : (j : ℕ) → j < at → get_or now j 0 ≡ get_or cells j 0
-    copied_before j h =
-        let front : length (take at cells) ≡ at = length-take-le at cells (omega arith) in
-        ap (λ (l : List ℕ). get_or l j 0) k.1
-        ∙ get_or-append (take at cells ++ take i xs) (drop (at + i) cells) 0 j (omega (arith, length-append (take at cells) (take i xs)))
-        ∙ get_or-append (take at cells) (take i xs) 0 j (omega arith)
-        ∙ get_or-take at cells j 0 h
 
 -- ---- as stores in a place
 

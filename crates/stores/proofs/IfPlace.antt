@@ -1,40 +1,42 @@
 -- A change of a place that is guarded.
 use Prim.Native.Nat.{ℕ, ◌≤◌, ◌<◌}
 use mathlib.Core.Path.{◌≡◌, refl, sym, ◌∙◌, ap}
-use mathlib.Core.Bool.{Bool, cond, ◌&&◌}
+use mathlib.Core.Bool.{Bool, true, false, cond, ◌&&◌}
 use mathlib.Core.List.{List, [], ◌∷◌, ◌++◌}
-use borrow.Author.Tests.{eq-eqb, ne_eqb, lt-ltb, le-ltb, le-leb, lt-leb}
-use lib.Dec.{ltb}
+use borrow.Author.Tests.{eqb-true, eq-eqb, lt-ltb, le-leb, lt-leb}
+use lib.Dec.{eqb, ltb}
 use lib.ListN.{length}
 use Rattle.rules.specs.Layout.{places, table_size, wiring_index, first_index}
+use Rattle.protocol.proofs.Tests.{and_left}
 use Rattle.protocol.specs.Form.{most_entries}
 use Rattle.stores.specs.Stores.{Store, put, stored, listed_stores, listed_at, if_place, wired_at}
 use Rattle.stores.proofs.Copies.{stored_append}
 use Rattle.stores.proofs.Stores.{stored_length}
 
-module _ (cells : List ℕ) (place : ℕ) (changed : List ℕ) where
-  pub no_table : (length cells ≡ table_size → ⊥) → cells ≡ if_place cells place changed
+-- a place of a table
+pub is_placed : (cells : List ℕ) (place : ℕ) (changed : List ℕ) → length cells ≡ table_size → place < places → (out : List ℕ) → out ≡ if_place cells place changed → out ≡ changed
+unfolding if_place
+is_placed cells place changed size h out e =
+    e ∙ (λ i. cond (eq-eqb (length cells) table_size size i && lt-ltb place places h i) changed cells)
+
+-- what a function makes of the cells, by the test of the place
+module _ (cells : List ℕ) (place : ℕ) where
+  pub stays : (changed : List ℕ) → (eqb (length cells) table_size && ltb place places) ≡ false → cells ≡ if_place cells place changed
   unfolding if_place
-  no_table h = sym (ap (λ (b : Bool). cond (b && ltb place places) changed cells) (ne_eqb (length cells) table_size h))
+  stays changed e = sym (ap (λ (b : Bool). cond b changed cells) e)
 
-  module _ (size : length cells ≡ table_size) where
-    by_place : if_place cells place changed ≡ cond (ltb place places) changed cells
+  pub lent_size : (lent : List ℕ) → ((eqb (length cells) table_size && ltb place places) ≡ true) × (place < places) × (lent ≡ cells) → length lent ≡ table_size
+  lent_size lent here = ap length here.2 ∙ eqb-true (length cells) table_size (and_left (eqb (length cells) table_size) (ltb place places) here.0)
+
+  -- of the cells that are lent to it
+  module _ (lent : List ℕ) (here : ((eqb (length cells) table_size && ltb place places) ≡ true) × (place < places) × (lent ≡ cells)) (change : List ℕ → List ℕ) (out : List ℕ) where
+    pub changes : out ≡ change lent → out ≡ if_place cells place (change cells)
     unfolding if_place
-    by_place = ap (λ (b : Bool). cond (b && ltb place places) changed cells) (eq-eqb (length cells) table_size size)
+    changes e = e ∙ ap change here.2 ∙ sym (ap (λ (b : Bool). cond b (change cells) cells) here.0)
 
-    pub no_place : places ≤ place → cells ≡ if_place cells place changed
-    no_place h = sym (by_place ∙ ap (λ (b : Bool). cond b changed cells) (le-ltb place places h))
-
-    in_place : place < places → if_place cells place changed ≡ changed
-    in_place h = by_place ∙ ap (λ (b : Bool). cond b changed cells) (lt-ltb place places h)
-
-    -- what a function made of the cells
-    module _ (h : place < places) (out : List ℕ) where
-      pub placed : out ≡ changed → out ≡ if_place cells place changed
-      placed e = e ∙ sym (in_place h)
-
-      pub is_placed : out ≡ if_place cells place changed → out ≡ changed
-      is_placed e = e ∙ in_place h
+    pub changed_to : out ≡ if_place lent place (change lent) → out ≡ change lent
+    unfolding if_place
+    changed_to e = e ∙ ap (λ (l : List ℕ). cond (eqb (length l) table_size && ltb place places) (change lent) lent) here.2 ∙ ap (λ (b : Bool). cond b (change lent) lent) here.0
 
 -- stores after others, as one list of them
 pub after_stores : (cells mid out : List ℕ) (place : ℕ) (xs ys : List Store) → mid ≡ stored cells place xs → out ≡ stored mid place ys → out ≡ stored cells place (xs ++ ys)

@@ -7,6 +7,7 @@ use Rattle.rules.specs.Facts.{Asking, asked_single, asked_combined}
 use Rattle.rules.specs.Cells as Cells
 use Rattle.rules.specs.Cells.{combined_cell, list_cells, empty_cells}
 use Rattle.rules.specs.declared.Setup.{Setup}
+use Rattle.stores.specs.declared.ThreeCells.{ThreeCells}
 use Rattle.soundness.specs.Place.{cell_of}
 
 -- a number put into a cell of a place
@@ -24,6 +25,10 @@ three_stores index mode delta notify state = put index mode ∷ put (index + 1) 
 
 abbrev pub setup_stores : ℕ → Setup → ℕ → List Store
 setup_stores index setup state = three_stores index (setup.mode + 1) setup.delta setup.notify state
+
+-- the three cells of a setup
+abbrev pub setup_cells : Setup → ThreeCells
+setup_cells setup = record { mode = setup.mode + 1; delta = setup.delta; notify = setup.notify }
 
 -- an asking: its experiment number, what it asks for, and no answer since
 abbrev pub asking_stores : ℕ → ℕ → ℕ → ℕ → List Store

@@ -10,6 +10,5 @@ pub mod ReadByCells
 pub mod Steps
 pub mod Sums
 pub mod Tells
-pub mod Unsound
 pub mod DatasetAnswers
 pub mod Wirings

@@ -1,9 +1,8 @@
 -- Offering a message: what judging says of the table, what changes, and what is answered.
 use Prim.Native.Nat.{ℕ, ◌<◌}
 use mathlib.Core.Path.{◌≡◌, refl, sym, ◌∙◌, ap}
-use mathlib.Core.Bool.{Bool, true, false, cond}
+use mathlib.Core.Bool.{true, false}
 use mathlib.Core.List.{List}
-use lib.ListN.{length}
 use Rattle.protocol.specs.Number.{Bytes}
 use Rattle.protocol.specs.Decode as Decode
 use Rattle.protocol.specs.Decode.{decode, open_of}
@@ -27,10 +26,9 @@ use Rattle.rules.proofs.CellsSound.{sound_is}
 use Rattle.rules.proofs.Kept.{fresh_by, virtual_by, wanted}
 use Rattle.rules.proofs.OpenBytes.{opens_are}
 use Rattle.rules.proofs.Ranges.{effect_fits_lem}
-use Rattle.rules.specs.Layout.{experiment_count, table_size}
+use Rattle.rules.specs.Layout.{experiment_count}
 use Rattle.table.specs.Judged.{refusal_by, judged_by}
-use Rattle.table.specs.OfferAnswer.{empty_answer}
-use borrow.Author.Tests.{eq-eqb, ne_eqb, lt-ltb}
+use borrow.Author.Tests.{lt-ltb}
 
 -- ---- what judging says of the table
 
@@ -127,11 +125,3 @@ fits_by s way experiment m e bytes small read is =
     ∙ sym (ap (effect_fits (effect_of experiment m)) (opens_are experiment m s))
     ∙ sym (ap (λ (x : Message). effect_fits (effect_of experiment x) (heard (effect_of experiment x) (open_of s (Decode.accepted (form_of m) (values_of m))))) (message_back m))
     ∙ effect_fits_lem experiment (lt-ltb experiment experiment_count small) way s bytes (form_of m) (values_of m) read
-
--- ---- emptying
-
-pub empty_refused : (cells : List ℕ) → (length cells ≡ table_size → ⊥) → empty_answer cells ≡ refused 9 0
-empty_refused cells h = ap (λ (b : Bool). cond b (accepted tt) (refused 9 0)) (ne_eqb (length cells) table_size h)
-
-pub empty_done : (cells : List ℕ) → length cells ≡ table_size → empty_answer cells ≡ accepted tt
-empty_done cells e = ap (λ (b : Bool). cond b (accepted tt) (refused 9 0)) (eq-eqb (length cells) table_size e)

@@ -2,7 +2,7 @@
 use Prim.Native.Nat.{ℕ, suc, ◌+◌, ◌*◌, ◌≤◌, ◌<◌}
 use native.Mathlib.Omega.{arith}
 use mathlib.Core.Path.{◌≡◌, refl, sym, ◌∙◌, ap}
-use mathlib.Core.Bool.{Bool, true, false, cond}
+use mathlib.Core.Bool.{Bool, true, false, cond, true≢false}
 use mathlib.Core.List.{List, [], ◌∷◌}
 use mathlib.Core.Option.{Option, none, some}
 use mathlib.Core.Logic.{⊎_elim}
@@ -35,6 +35,9 @@ use Rattle.rules.proofs.Laws.{table_sound}
 use Rattle.soundness.specs.Place.{place_of, first_free, cell_of, find_place, free_place}
 use Rattle.stores.specs.Stores.{put, stored, three_stores, setup_stores, asking_stores, asked_stores, answered_stores, listed_stores, taken_stores, zeroed, asked_at, kept_cells, combined_state_by, listed_at, if_place, emptied, wired_at}
 use Rattle.stores.proofs.IfPlace.{is_placed, both_wired}
+use Rattle.std.specs.Prelude as Prelude
+use Rattle.soundness.specs.Found.{Finds}
+use Rattle.soundness.proofs.Found.{is_full}
 use Rattle.soundness.proofs.Places.{sixteen, find_place_lem, free_place_lem}
 use Rattle.stores.proofs.Stores.{cell_of_lem, stored_length}
 use Rattle.stores.proofs.ListCells.{kept_length, kept_cell}
@@ -82,6 +85,13 @@ module _ (cells : List ℕ) (ok : sound cells ≡ true) where
 
   pub free_at : (place : ℕ) → place ≡ free_place cells → place ≡ first_free t
   free_at place e = e ∙ free_place_lem cells (sound_length cells ok)
+
+  pub room_found : (r : Prelude.Option ℕ) → Finds (free_place cells) r → full_table t ≡ false → Prelude.IsSome r
+  room_found r e room = has_room r (is_full cells (sound_length cells ok) r e ∙ room)
+    where
+      has_room : (r : Prelude.Option ℕ) → Prelude.is_none r ≡ false → Prelude.IsSome r
+      has_room Prelude.None e = absurd (true≢false e)
+      has_room (Prelude.Some i) e = refl
 
   pub present_below_lem : (port place : ℕ) → known (view_of_table t port) ≡ true → place ≡ place_of t port → place < places
   present_below_lem port place k at =

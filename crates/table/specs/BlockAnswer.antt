@@ -1,14 +1,14 @@
 -- Working through a block of a log: 9 where the table isn't sound, else how much input was taken and how much text was
--- written, and the totals. Then document 01's answer for each case of the code's.
-use Rattle.std.specs.Prelude.{ℕ, ◌*◌, ◌≤◌, cond, List, length}
-use Rattle.rules.specs.Answer.{Answer, refused, accepted}
+-- written, and the totals. Then document 01's answer for what the code gives.
+use Rattle.std.specs.Prelude.{ℕ, ◌*◌, ◌≤◌, cond, List, length, Result, Ok, Err}
+use Rattle.protocol.specs.declared.refusal.Refusal.{Refusal}
+use Rattle.rules.specs.Answer.{Answer, refused, accepted, answered}
 use Rattle.rules.specs.Cells.{sound}
 use Rattle.log_rules.specs.Record.{record_size}
 use Rattle.protocol.specs.Overwrite.{overwrite}
 use Rattle.log_rules.specs.Cutting.{Run, worked, printed}
 use Rattle.log_rules.specs.Block.{block_records}
 use Rattle.table.specs.declared.block.Block.{Block}
-use Rattle.table.specs.declared.block.Block.TheVariants.{Done, Refused}
 
 pub record Progress : Type 0 where
   pub taken : ℕ
@@ -16,14 +16,16 @@ pub record Progress : Type 0 where
   pub lines : ℕ
   pub refused : ℕ
 
-abbrev pub answer_of : Block → Answer Progress
-answer_of (Refused number place) = refused number place
-answer_of (Done taken written lines refused') = accepted (record { taken = taken; written = written; lines = lines; refused = refused' })
+abbrev pub progress_of : Block → Progress
+progress_of b = record { taken = b.taken; written = b.written; lines = b.totals.lines; refused = b.totals.refused }
+
+abbrev pub answer_of : Result Block Refusal → Answer Progress
+answer_of = answered progress_of
 
 -- it takes no more input than there is, and no more room
-abbrev pub block_fits : Block → ℕ → ℕ → Type 0
-block_fits (Refused number place) size room = Unit {0}
-block_fits (Done taken written lines refused') size room = (taken ≤ size) × (written ≤ room)
+abbrev pub block_fits : Result Block Refusal → ℕ → ℕ → Type 0
+block_fits (Err r) size room = Unit {0}
+block_fits (Ok b) size room = (b.taken ≤ size) × (b.written ≤ room)
 
 -- before the block
 abbrev pub run_of : List ℕ → ℕ → ℕ → List ℕ → Run

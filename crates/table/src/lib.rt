@@ -7,7 +7,7 @@ mod combined;
 mod datasets;
 mod judge;
 mod lookup;
-pub mod offering;
+mod offering;
 mod step;
 
 ghost use Rattle.std.specs.Prelude.{◌≡◌, true, ℕ, length};
@@ -25,58 +25,52 @@ ghost use Rattle.table.specs.OfferAnswer as OfferAnswer;
 use crate::block::{Block, block_sound};
 use crate::combined::MOST_VALUES;
 use crate::datasets::value_sound;
-use crate::offering::{Outcome, offer_sound};
-use protocol::Way;
+use crate::offering::offer_sound;
+use log_lines::totals::Totals;
+use protocol::{Refusal, Way};
 use rules::layout::TABLE_SIZE;
 use soundness::is_sound;
+use soundness::sound_table::SoundTable;
 use stores::clear;
 use values::datasets::{Dataset, ValueMessage, handed_out};
 
 // Makes an empty table of `TABLE_SIZE` cells of any content.
-pub fn empty(table: &mut [u32]) -> Outcome
+pub fn empty(table: &mut [u32]) -> Result<(), Refusal>
     ensures { (OfferAnswer.answer_of result ≡ empty_answer table.old) × (table.new ≡ emptied table.old) }
 {
     if table.len() != TABLE_SIZE {
-        return Outcome::Refused {
-            number: 9,
-            place: 0,
-        };
+        return Err(Refusal::UnsoundTable);
     }
     clear(table);
-    Outcome::Accepted
+    Ok(())
 }
 
 // Offers a message with its experiment number to the table, which follows it where it is accepted.
-pub fn offer(table: &mut [u32], message: &[u8], way: Way, experiment: u16) -> Outcome
+#[tactic(auto, unfolding(rules::specs::Offer::offer_by_cells, rules::specs::Offer::cells_after))]
+pub fn offer(table: &mut [u32], message: &[u8], way: Way, experiment: u16) -> Result<(), Refusal>
     ensures { (OfferAnswer.answer_of result ≡ outcome (offer_by_cells table.old (record { way = way; bytes = message.now; experiment = experiment }))) × (table.new ≡ cells_after table.old (record { way = way; bytes = message.now; experiment = experiment })) }
 {
-    if is_sound(table) {
-        return offer_sound(table, message, way, experiment);
+    if !is_sound(table) {
+        return Err(Refusal::UnsoundTable);
     }
-    Outcome::Refused {
-        number: 9,
-        place: 0,
-    }
+    offer_sound(table, message, way, experiment)
 }
 
 // What the datasets of a message are read by, as the table stands. A plan of 16 bytes is lent, in which a 0x46 has its plan
 // afterwards; a plan of any other size is answered with 9.
-pub fn value(table: &[u32], message: &[u8], way: Way, plan: &mut [u8]) -> ValueMessage
+#[tactic(auto, unfolding(rules::specs::Offer::dataset_by_cells))]
+pub fn value(
+    table: &[u32],
+    message: &[u8],
+    way: Way,
+    plan: &mut [u8],
+) -> Result<ValueMessage, Refusal>
     ensures { ((number : ℕ) → dataset_by result plan.new message.now number ≡ in_plan (length plan.old) (dataset_by_cells table.now way message.now number)) × (value_fits result ≡ true) × (length plan.new ≡ length plan.old) }
 {
-    if plan.len() != MOST_VALUES {
-        return ValueMessage::Refused {
-            number: 9,
-            place: 0,
-        };
-    }
-    if is_sound(table) {
-        return value_sound(table, message, way, plan);
-    }
-    ValueMessage::Refused {
-        number: 9,
-        place: 0,
-    }
+    let Some(plan) = plan.as_mut_array::<MOST_VALUES>() else {
+        return Err(Refusal::UnsoundTable);
+    };
+    value_sound(SoundTable::of(table)?, message, way, plan)
 }
 
 // Hands out one dataset of a message, as the table stands.
@@ -89,21 +83,18 @@ pub fn dataset(table: &[u32], message: &[u8], way: Way, number: usize) -> Datase
 }
 
 // Works through a block of a log: as many whole records as there is room for, each a line of text in
-// the front of `out`, numbered on from `lines`. The table follows the messages.
+// the front of `out`, numbered on from the lines of `totals`. The table follows the messages.
+#[tactic(auto, unfolding(crate::specs::BlockAnswer::block_answer, crate::specs::BlockAnswer::block_cells, crate::specs::BlockAnswer::block_text))]
 pub fn read_block(
     table: &mut [u32],
-    lines: u64,
-    refused: u64,
+    totals: Totals,
     input: &[u8],
     out: &mut [u8],
-) -> Block
-    ensures { (BlockAnswer.answer_of result ≡ block_answer 128 (run_of table.old lines refused input.now) (length out.old)) × (table.new ≡ block_cells 128 (run_of table.old lines refused input.now) (length out.old)) × (out.new ≡ block_text 128 (run_of table.old lines refused input.now) out.old) × (block_fits result (length input.now) (length out.old)) }
+) -> Result<Block, Refusal>
+    ensures { (BlockAnswer.answer_of result ≡ block_answer 128 (run_of table.old totals.lines totals.refused input.now) (length out.old)) × (table.new ≡ block_cells 128 (run_of table.old totals.lines totals.refused input.now) (length out.old)) × (out.new ≡ block_text 128 (run_of table.old totals.lines totals.refused input.now) out.old) × (block_fits result (length input.now) (length out.old)) }
 {
-    if is_sound(table) {
-        return block_sound(table, lines, refused, input, out);
+    if !is_sound(table) {
+        return Err(Refusal::UnsoundTable);
     }
-    Block::Refused {
-        number: 9,
-        place: 0,
-    }
+    Ok(block_sound(table, totals, input, out))
 }

@@ -13,16 +13,10 @@ use crate::judge::judged;
 use crate::step::{attach, attach_virtual, detach, tell};
 use codec::read;
 use effects::effect_of;
-use protocol::{Reading, Way};
+use protocol::{Refusal, Way};
 use rules::Effect;
+use soundness::sound_table::SoundTable;
 use stores::clear;
-
-// What offering a message gives: it is accepted, or the number and place of the refusal.
-#[derive(Clone, Copy)]
-pub enum Outcome {
-    Accepted,
-    Refused { number: u8, place: u16 },
-}
 
 // What an accepted message changes.
 fn follow(table: &mut [u32], e: Effect, message: &[u8])
@@ -45,29 +39,25 @@ fn follow(table: &mut [u32], e: Effect, message: &[u8])
 }
 
 // A message that reading accepts, by what it is to the table and its bytes.
-pub(crate) fn offer_effect(table: &mut [u32], e: Effect, message: &[u8]) -> Outcome
+pub(crate) fn offer_effect(table: &mut [u32], e: Effect, message: &[u8]) -> Result<(), Refusal>
     requires { (sound table.old ≡ true) × (effect_fits e (opens_in e message.now) ≡ true) }
     ensures { (answer_of result ≡ outcome (judged_by table.old e message.now)) × (table.new ≡ applied_to table.old (judged_by table.old e message.now)) }
 {
-    let refusal = judged(table, e, message);
-    let is_refused = refusal != 0;
-    if is_refused {
-        return Outcome::Refused {
-            number: refusal,
-            place: 0,
-        };
-    }
+    judged(SoundTable { cells: table }, e, message)?;
     follow(table, e, message);
-    Outcome::Accepted
+    Ok(())
 }
 
 // Any message with its experiment number: judged, and where it is accepted, followed.
-pub(crate) fn offer_sound(table: &mut [u32], message: &[u8], way: Way, experiment: u16) -> Outcome
+pub(crate) fn offer_sound(
+    table: &mut [u32],
+    message: &[u8],
+    way: Way,
+    experiment: u16,
+) -> Result<(), Refusal>
     requires { sound table.old ≡ true }
     ensures { (answer_of result ≡ outcome (offer_by_cells table.old (record { way = way; bytes = message.now; experiment = experiment }))) × (table.new ≡ cells_after table.old (record { way = way; bytes = message.now; experiment = experiment })) }
 {
-    match read(message, way) {
-        Reading::Accepted(m) => offer_effect(table, effect_of(m, experiment), message),
-        Reading::Refused { number, place } => Outcome::Refused { number, place },
-    }
+    let m = read(message, way)?;
+    offer_effect(table, effect_of(m, experiment), message)
 }

@@ -5,5 +5,6 @@ ghost use Rattle.std.specs.Prelude.{◌≡◌, cond, eqb};
 pub fn value_experiment(state: u8, experiment: u16) -> u16
     ensures { result ≡ cond (eqb state 2) experiment 0 }
 {
-    if state == 2 { experiment } else { 0 }
+    let is_measured = state == 2;
+    if is_measured { experiment } else { 0 }
 }

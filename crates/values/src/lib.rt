@@ -8,3 +8,4 @@ pub mod format;
 pub mod number;
 pub mod plan;
 pub mod size;
+pub mod stamp;

@@ -18,7 +18,9 @@ use Rattle.protocol.specs.Decode.{header, smallest_size}
 use Rattle.protocol.specs.Answer.{form_of, values_of}
 use Rattle.protocol.specs.Encode.{Encoded, encoded, refused, good, bad, taken, holds, field_bytes, low_first, Written, outside, wrote, before, write_fields, rest_fits, write_run, then_rest, framed, closed, after_field, after_fields, front_value, front_values, encode_form}
 use Rattle.writer.specs.Writing.{limited, answer_of, answered, lent_after}
-use Rattle.protocol.specs.declared.Written.TheVariants as Written'
+use Rattle.std.specs.Prelude.{Err}
+use Rattle.protocol.specs.declared.refusal.Refusal.{Refusal}
+use Rattle.protocol.specs.Refusal.{number_of, place_of}
 use Rattle.protocol.specs.declared.Combinations.{Combinations}
 use Rattle.protocol.specs.declared.Message.{Message}
 use Rattle.protocol.specs.declared.Message.TheVariants as Message'
@@ -332,8 +334,8 @@ pub all_inside : (m : Message) (opens : List ℕ) (slots : List Slot) → Slotte
     → encode_form (form_of m) (values_of m) opens ≡ encoded (message_bytes slots opens)
 all_inside m opens slots x right e k = fields_inside m opens slots x right e ∙ rw (eq-eqb (open_outside m opens) 0 k)
 
-pub refused_answer : (x : Encoded) (n place room : ℕ) (out : List ℕ) → x ≡ refused n place
-    → (answer_of (Written'.Refused n place) ≡ answered (limited room x)) × (out ≡ lent_after (limited room x) out)
+pub refused_answer : (x : Encoded) (r : Refusal) (room : ℕ) (out : List ℕ) → x ≡ refused (number_of r) (place_of r)
+    → (answer_of (Err r) ≡ answered (limited room x)) × (out ≡ lent_after (limited room x) out)
 unfolding limited
-refused_answer x n place room out e =
+refused_answer x r room out e =
     (sym (ap (λ (y : Encoded). answered (limited room y)) e), sym (ap (λ (y : Encoded). lent_after (limited room y) out) e))

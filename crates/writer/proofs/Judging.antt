@@ -1,14 +1,14 @@
 -- What follows from a judgement that is known.
 use Prim.Native.Nat.{ℕ, ◌+◌}
-use mathlib.Core.Path.{◌≡◌, sym, ◌∙◌, ap, subst}
+use mathlib.Core.Path.{◌≡◌, refl, sym, ◌∙◌, ap, subst}
 use mathlib.Core.List.{List}
 use lib.ListN.{length}
 use Rattle.protocol.proofs.RoundTrip.{written_short}
 use Rattle.protocol.specs.Answer.{form_of, values_of}
-use Rattle.protocol.specs.Encode.{encode, encode_form}
+use Rattle.protocol.specs.Encode.{encode, encode_form, refused}
 use Rattle.protocol.specs.declared.Message.{Message}
 use Rattle.protocol.specs.declared.Way.{Way}
-use Rattle.selectors.specs.declared.Choice.{Choice}
+use Rattle.selectors.specs.Choice.{Choice}
 use Rattle.slots.specs.Slot.{Slotted}
 use Rattle.slots.specs.declared.Slot.{Slot}
 use Rattle.writer.proofs.Encoding.{all_inside}
@@ -17,7 +17,12 @@ use Rattle.writer.specs.Judged.{Good, Judged}
 use Rattle.writer.specs.Open.{open_fits, open_outside}
 use Rattle.writer.specs.Slots.{first_outside, slots_bytes, type_place}
 use Rattle.writer.specs.Writing.{written, answered}
-use mathlib.Core.Bool.{true}
+use mathlib.Core.Bool.{true, false}
+use Rattle.std.specs.Prelude.{◌↔◌, IsOk, IfErr, Ok, Err}
+use Rattle.protocol.specs.declared.refusal.Refusal.TheVariants.{OutsideList}
+
+pub never : false ≡ true → ⊥
+never e = cc
 
 module _ (way : Way) (m : Message) (opens : List ℕ) (slots : List Slot) where
   -- no refusal came
@@ -28,6 +33,12 @@ module _ (way : Way) (m : Message) (opens : List ℕ) (slots : List Slot) where
 
   pub known : (r c : Choice) → Judged way m opens slots r → r ≡ c → Judged way m opens slots c
   known r c x e = subst (Judged way m opens slots) e x
+
+  -- what is left is a refusal 7 at a place, where that is not 0
+  pub judged_by : (place : ℕ) (r : Choice) → IsOk r ↔ (place ≡ 0) → IfErr r (λ e. e ≡ OutsideList place)
+      → (place ≡ 0 → Good way m opens slots) → ((place ≡ 0 → ⊥) → encode way m opens ≡ refused 7 place) → Judged way m opens slots r
+  judged_by place (Ok t) ok err good bad = good (ok.0 refl)
+  judged_by place (Err e) ok err good bad = rw err (bad (λ z. never (ok.1 z)))
 
   -- the length of a message that is good
   pub length_is : Good way m opens slots → (w : ℕ) → w ≡ length (slots_bytes slots) → written (type_place + w + length opens) ≡ answered (encode way m opens)

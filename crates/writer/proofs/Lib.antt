@@ -1,6 +1,5 @@
 pub mod Encoding
 pub mod Judging
-pub mod Copying
 pub mod Cases
 pub mod Walk
 pub mod Whole

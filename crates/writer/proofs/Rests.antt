@@ -1,14 +1,14 @@
 -- What follows a message's fields: of most nothing, and what of open bytes is right.
-use Prim.Native.Nat.{ℕ, ◌+◌, ◌≤◌}
+use Prim.Native.Nat.{ℕ, ◌≤◌, ◌<◌}
 use native.Mathlib.Omega.{arith}
 use mathlib.Core.Path.{◌≡◌, refl, sym, ◌∙◌, ap}
-use mathlib.Core.Bool.{true, false, ◌&&◌}
+use mathlib.Core.Bool.{true, ◌&&◌}
 use mathlib.Core.List.{List}
-use mathlib.Core.Logic.{⊎_elim}
-use lib.Dec.{leb, ltb}
+use mathlib.Core.Option.{none, some}
+use lib.Dec.{leb}
 use lib.ListN.{length}
-use borrow.Author.Tests.{leb-true, ltb-true, ltb-false}
-use Rattle.protocol.proofs.Tests.{which, and_right}
+use borrow.Author.Tests.{leb-true}
+use Rattle.protocol.proofs.Tests.{and_right}
 use Rattle.protocol.specs.Form.{Rest, nothing, open_run, layout, Run, whole, wrong_byte}
 use Rattle.protocol.specs.Answer.{form_of, values_of}
 use Rattle.protocol.specs.Decode.{fields_end}
@@ -16,8 +16,7 @@ use Rattle.protocol.specs.Encode.{rest_fits, after_fields}
 use Rattle.protocol.specs.declared.Combinations.{Combinations}
 use Rattle.protocol.specs.declared.Message.{Message}
 use Rattle.protocol.specs.declared.Message.TheVariants as Message'
-use Rattle.hub_messages.specs.Runs.{wrong_index}
-use Rattle.hub_messages.proofs.Runs.{index_few, all_right, one_wrong}
+use Rattle.std.specs.Prelude.{Option, Some, None, IfSome, MatchOption}
 use Rattle.writer.specs.Open.{open_fits, place_from, place_of, rest_outside, open_outside}
 
 -- a message that ends with its fields: it has none of the other cases
@@ -134,14 +133,18 @@ module _ (m n : Message) (is : m ≡ n) (opens : List ℕ) (least most : ℕ) (r
       let fits : (whole run size && (leb least size && leb size most)) ≡ true = sym (ap (λ (r : Rest). rest_fits r (after_fields (layout (form_of m)).fields (values_of m)) size) run_follows) ∙ e in
       leb-true size most (and_right (leb least size) (leb size most) (and_right (whole run size) (leb least size && leb size most) fits))
 
-  pub first_wrong : (at i count place : ℕ) → place ≡ place_of at i count → at ≡ fields_end (form_of n) → i ≡ wrong_index run opens → count ≡ length opens → place ≡ open_outside m opens
+  pub few_before : (r : Option ℕ) → IfSome r (λ i. i < length opens) → open_fits m (length opens) ≡ true → most ≤ 124 → IfSome r (λ i. i < 124)
+  few_before None h fits few = tt
+  few_before (Some i) h fits few = omega (arith, few_bytes fits)
+
+  pub first_wrong : (at place : ℕ) (r : Option ℕ) → place ≡ place_of at r → at ≡ fields_end (form_of n) → MatchOption r (wrong_byte run opens ≡ none) (λ i. wrong_byte run opens ≡ some i) → place ≡ open_outside m opens
   unfolding open_outside
-  first_wrong at i count place e start first size =
+  first_wrong at place r e start wrong =
       let found : open_outside m opens ≡ place_from at (wrong_byte run opens) =
-      ap (λ (r : Rest). rest_outside (fields_end (form_of m)) r opens) run_follows ∙ ap (λ (k : ℕ). place_from k (wrong_byte run opens)) (ap (λ (k : Message). fields_end (form_of k)) is ∙ sym start)
+      ap (λ (f : Rest). rest_outside (fields_end (form_of m)) f opens) run_follows ∙ ap (λ (k : ℕ). place_from k (wrong_byte run opens)) (ap (λ (k : Message). fields_end (form_of k)) is ∙ sym start)
       in
-      e
-      ∙ ⊎_elim
-      (λ (yes : ltb i count ≡ true). rw yes (sym (found ∙ ap (place_from at) (one_wrong run opens (omega (arith, first, size, ltb-true i count yes))) ∙ ap (λ (k : ℕ). at + k) (sym first))))
-      (λ (no : ltb i count ≡ false). rw no (sym (found ∙ ap (place_from at) (all_right run opens (omega (arith, first, size, ltb-false i count no, index_few run opens))))))
-      (which (ltb i count))
+      e ∙ sym (found ∙ same r wrong)
+    where
+      same : (r : Option ℕ) → MatchOption r (wrong_byte run opens ≡ none) (λ i. wrong_byte run opens ≡ some i) → place_from at (wrong_byte run opens) ≡ place_of at r
+      same None w = ap (place_from at) w
+      same (Some i) w = ap (place_from at) w

@@ -7,7 +7,8 @@ use mathlib.Core.List.{List, [], ◌∷◌, ◌++◌}
 use borrow.Author.Tests.{lt-ltb, le-ltb}
 use lib.ListN.{length, set, drop, length-append, length-set}
 use Rattle.protocol.specs.Encode.{Encoded, encoded, refused}
-use Rattle.protocol.specs.declared.Written.TheVariants.{Length, Refused}
+use Rattle.std.specs.Prelude.{Ok, Err}
+use Rattle.protocol.specs.declared.refusal.Refusal.TheVariants.{ShortOutput}
 use Rattle.writer.specs.Writing.{limited, answer_of, written, answered, lent_after}
 use Rattle.protocol.proofs.Overwrite.{overwrite_then}
 use Rattle.protocol.specs.Overwrite.{overwrite}
@@ -60,14 +61,14 @@ module _ (slots : List Slot) (opens : List ℕ) (w : ℕ) (is : w ≡ length (sl
 
   -- the answer and the lent bytes afterwards, where there is no room
   pub short_answer : (out : List ℕ) → length out < type_place + w + length opens
-      → (answer_of (Refused 8 0) ≡ answered (limited (length out) (encoded whole))) × (out ≡ lent_after (limited (length out) (encoded whole)) out)
+      → (answer_of (Err ShortOutput) ≡ answered (limited (length out) (encoded whole))) × (out ≡ lent_after (limited (length out) (encoded whole)) out)
   short_answer out h =
       let e = too_short (length out) h in (sym (ap answered e), sym (ap (λ (x : Encoded). lent_after x out) e))
 
   -- and where there is
   pub whole_answer : (out last : List ℕ) → type_place + w + length opens ≤ length out
       → last ≡ overwrite (overwrite (set (set out 0 (type_place + w + length opens)) 1 0) type_place (slots_bytes slots)) (type_place + w) opens
-      → (answer_of (Length (type_place + w + length opens)) ≡ answered (limited (length out) (encoded whole))) × (last ≡ lent_after (limited (length out) (encoded whole)) out)
+      → (answer_of (Ok (type_place + w + length opens)) ≡ answered (limited (length out) (encoded whole))) × (last ≡ lent_after (limited (length out) (encoded whole)) out)
   whole_answer out last h is-put =
       let e : encoded whole ≡ limited (length out) (encoded whole) = sym (long_enough (length out) h) in
       let put : last ≡ lent_after (encoded whole) out = is-put ∙ message_put out h in

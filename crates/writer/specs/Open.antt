@@ -1,5 +1,6 @@
 -- Whether the open bytes of a message are as its form wants them: how many, and each of them.
-use Rattle.std.specs.Prelude.{ℕ, ◌+◌, Bool, cond, List, ltb}
+use Rattle.std.specs.Prelude.{ℕ, ◌+◌, Bool, List}
+use Rattle.std.specs.Prelude as std
 use Rattle.std.proofs.Math.Option.{Option, none, some}
 use Rattle.protocol.specs.Form.{Rest, nothing, open_run, words, layout, wrong_byte}
 use Rattle.protocol.specs.Decode.{fields_end}
@@ -15,9 +16,10 @@ abbrev pub place_from : ℕ → Option ℕ → ℕ
 place_from at none = 0
 place_from at (some i) = at + i
 
--- the place of a byte by its index among so many that start at a place; 0 where none is there
-abbrev pub place_of : ℕ → ℕ → ℕ → ℕ
-place_of at i count = cond (ltb i count) (at + i) 0
+-- the same of what a function finds
+abbrev pub place_of : ℕ → std.Option ℕ → ℕ
+place_of at std.None = 0
+place_of at (std.Some i) = at + i
 
 -- the place of the first wrong open byte, where they start at a place; 0 where all are right
 abbrev pub rest_outside : ℕ → Rest → List ℕ → ℕ

@@ -1,9 +1,9 @@
 -- The answer of writing into a lent slice: refusal 8, document 01's answer, and the lent bytes afterwards.
-use Rattle.std.specs.Prelude.{ℕ, cond, List, ◌++◌, ltb, length, drop}
+use Rattle.std.specs.Prelude.{ℕ, cond, List, ◌++◌, ltb, length, drop, Result, Ok, Err}
 use Rattle.protocol.specs.Encode.{Encoded, encoded}
 use Rattle.protocol.specs.Encode as Encode
-use Rattle.protocol.specs.declared.Written.{Written}
-use Rattle.protocol.specs.declared.Written.TheVariants.{Length, Refused}
+use Rattle.protocol.specs.declared.refusal.Refusal.{Refusal}
+use Rattle.protocol.specs.Refusal.{number_of, place_of}
 
 -- writing into so many bytes of room: 8 comes after all other refusals
 unfoldable pub limited : ℕ → Encoded → Encoded
@@ -16,9 +16,9 @@ pub data WriteAnswer : Type 0 where
   written : ℕ → WriteAnswer
 
 -- document 01's answer for each case of a writing
-abbrev pub answer_of : Written → WriteAnswer
-answer_of (Length n) = written n
-answer_of (Refused number place) = refused number place
+abbrev pub answer_of : Result ℕ Refusal → WriteAnswer
+answer_of (Ok n) = written n
+answer_of (Err r) = refused (number_of r) (place_of r)
 
 -- and for what the definition gives
 abbrev pub answered : Encoded → WriteAnswer

@@ -1,104 +1,62 @@
 // Whether what follows the fields is right: refusal 6, and 7 of the open bytes.
-ghost use Rattle.std.specs.Prelude.{◌≡◌, true, ◌≤◌, length};
-ghost use Rattle.protocol.specs.Form as Form;
-ghost use Rattle.protocol.specs.Properties as Properties;
-ghost use Rattle.protocol.specs.Rule as Rule;
+ghost use Rattle.std.specs.Prelude.{◌≡◌, true, ◌<◌, ◌↔◌, IfSome, IsOk, IfErr, length};
+ghost use Rattle.protocol.specs.declared.refusal.Refusal.TheVariants as Refusal';
 ghost use Rattle.writer.specs.Open.{open_fits, place_of, open_outside};
 
-use hub_messages::rule::{between, repeated_entry, wrong_feedback};
-use protocol::Message;
-
-// The most bytes of a property's text.
-fn longest(property: u8) -> usize
-    ensures { result ≡ Properties.longest property }
-{
-    if property == 1 { 14 } else { 122 }
-}
-
-// The most bytes of a mode's name or symbol.
-fn longest_mode_text(information: u8) -> usize
-    ensures { result ≡ Form.longest_mode_text information }
-{
-    if information == 0 { 11 } else { 5 }
-}
-
-fn within(least: usize, count: usize, most: usize) -> bool
-    ensures { result ≡ Rule.between least most count }
-{
-    if count < least {
-        return false;
-    }
-    count <= most
-}
+use hub_messages::rule::{repeated_entry, wrong_feedback};
+use protocol::{Message, Refusal};
 
 // So many open bytes, for a message: of an 82 whole pairs; of a 43's list also its count.
+#[tactic(auto, unfolding(crate::specs::Open::open_fits, protocol::specs::Form::layout, protocol::specs::Properties::longest, protocol::specs::Form::longest_mode_text))]
 pub(crate) fn open_fits(m: Message, count: usize) -> bool
     ensures { result ≡ open_fits m count }
 {
+    // the most bytes: of a name 14, of other texts 122; of a mode's name 11, of its symbol 5
     match m {
-        Message::PropertyText {
-            property,
-            operation: _,
-        } => within(1, count, longest(property)),
-        Message::ModeText {
-            port: _,
-            mode: _,
-            information,
-        } => within(1, count, longest_mode_text(information)),
-        Message::PortValue { port: _ } => within(1, count, 123),
-        Message::PortCombinations {
-            port: _,
-            combinations,
-        } => {
-            if between(1, combinations.count, 8) {
-                count == 0
-            } else {
-                false
-            }
+        Message::PropertyText { property, .. } => {
+            let longest = if property == 1 { 14 } else { 122 };
+            (1..=longest).contains(&count)
         }
-        Message::OutputFeedback => {
-            if count % 2 == 0 {
-                within(2, count, 124)
-            } else {
-                false
-            }
+        Message::ModeText { information, .. } => {
+            let longest = if information == 0 { 11 } else { 5 };
+            (1..=longest).contains(&count)
         }
-        Message::ModeDatasets {
-            port: _,
-            combination: _,
-        } => within(1, count, 16),
-        Message::PortValueCombined {
-            port: _,
-            pointers: _,
-        } => within(1, count, 121),
+        Message::PortValue { .. } => (1..=123).contains(&count),
+        Message::PortCombinations { combinations, .. } => {
+            (1..=8).contains(&combinations.count) && count == 0
+        }
+        Message::OutputFeedback => count % 2 == 0 && (2..=124).contains(&count),
+        Message::ModeDatasets { .. } => (1..=16).contains(&count),
+        Message::PortValueCombined { .. } => (1..=121).contains(&count),
         _ => count == 0,
     }
 }
 
-// Of so many bytes that start at a place, the place of the one at an index; 0 where none is there.
-fn place_of(start: u8, index: usize, count: usize) -> u16
-    requires { count ≤ 124 }
-    ensures { result ≡ place_of start index count }
+// Refusal 7 at the byte of an index among those that start at a place, where there is one.
+fn none_wrong(start: u16, wrong: Option<usize>) -> Result<(), Refusal>
+    requires after_type { 2 < start }
+    requires small { start < 7 }
+    requires near { IfSome wrong (λ i. i < 124) }
+    ensures ok { IsOk result ↔ (place_of start wrong ≡ 0) }
+    ensures err { IfErr result (λ e. e ≡ Refusal'.OutsideList (place_of start wrong)) }
 {
-    if index < count {
-        (start as usize + index) as u16
-    } else {
-        0
+    match wrong {
+        Some(i) => Err(Refusal::OutsideList {
+            place: start + i as u16,
+        }),
+        None => Ok(()),
     }
 }
 
-// The place of the first open byte that is not as it must be, which only an 82 and a 42's list can
-// have; 0 where all are.
-pub(crate) fn open_outside(m: Message, open: &[u8]) -> u16
+// Refusal 7 at the first open byte that is not as it must be, which only an 82 and a 42's list can have.
+pub(crate) fn open_listed(m: Message, open: &[u8]) -> Result<(), Refusal>
     requires { open_fits m (length «open».now) ≡ true }
-    ensures { result ≡ open_outside m «open».now }
+    ensures ok { IsOk result ↔ (open_outside m «open».now ≡ 0) }
+    ensures err { IfErr result (λ e. e ≡ Refusal'.OutsideList (open_outside m «open».now)) }
 {
     match m {
-        Message::OutputFeedback => place_of(3, wrong_feedback(open), open.len()),
-        Message::ModeDatasets {
-            port: _,
-            combination: _,
-        } => place_of(6, repeated_entry(open), open.len()),
-        _ => 0,
+        Message::OutputFeedback => none_wrong(3, wrong_feedback(open)),
+        Message::ModeDatasets { .. } => none_wrong(6, repeated_entry(open)),
+        _ => Ok(()),
     }
 }

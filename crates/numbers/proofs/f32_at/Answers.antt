@@ -3,14 +3,10 @@ use mathlib.Core.Path.{◌≡◌, refl, sym, ◌∙◌, ap}
 use mathlib.Core.Bool.{true, not}
 use borrow.Author.Tests.{lt-ltb, le-ltb}
 use lib.Dec.{T}
-use lib.Ieee.{Float, nan, inf, fin, binary32, of_bits, of_fields, odd, div, is_nan, nan_bits}
+use lib.Ieee.{Float, nan, inf, fin, binary32, of_bits, is_nan, nan_bits}
 use lib.Ieee.Bits.{nan_bits_is, nan_bits_above}
 use native.Mathlib.Omega.{arith}
 use Rattle.numbers.proofs.f32_at.Goals as goal
-
-divided : div binary32 (of_bits binary32 0) (of_bits binary32 0) ≡ nan
-unfolding div of_bits of_fields odd
-divided = refl
 
 the_nan : (v : Float) → is_nan v ≡ true → v ≡ nan
 unfolding is_nan
@@ -25,7 +21,7 @@ not_above : (n : ℕ) → n % 2147483648 ≤ 2139095040 → T (not (nan_bits bin
 not_above n h = rw (nan_bits_above binary32 n, le-ltb _ _ h) tt
 
 pub returns-then-bits-gt2139095040 : goal.returns-then-bits-gt2139095040
-returns-then-bits-gt2139095040 c = divided ∙ sym (above_is_nan c.u32_at-bits.result c.if-bits-gt2139095040.true) ∙ ap (of_bits binary32) c.u32_at-bits.ensures
+returns-then-bits-gt2139095040 c = above_is_nan 2143289344 (omega arith) ∙ sym (above_is_nan c.u32_at-bits.result c.if-bits-gt2139095040.true) ∙ ap (of_bits binary32) c.u32_at-bits.ensures
 
 pub float_from_bits-result : goal.float_from_bits-result
 float_from_bits-result c = not_above c.u32_at-bits.result c.if-bits-gt2139095040.false

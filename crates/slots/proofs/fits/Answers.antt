@@ -1,21 +1,25 @@
 use mathlib.Core.Path.{sym, ◌∙◌, ap}
 use mir.Syntax.{w8, w32}
 use Rattle.protocol.specs.Form.{signed_speed, degrees}
-use Rattle.slots.proofs.Ranges.{same, tested, slot_test}
+use native.Mathlib.Omega.{arith}
+use mathlib.Core.Path.{◌≡◌}
+use Rattle.slots.specs.Slot.{slot_fits}
+use Rattle.slots.proofs.Ranges.{same, tested, slot_test, finite_same}
 use borrow.Author.Rules.{rules}
 use Rattle.slots.proofs.fits.Goals as goal
 
 pub returns-in-Nothing : goal.returns-in-Nothing
-returns-in-Nothing c = sym (tested c.args.slot _ c.well_formed.0 ∙ ap slot_test c.in-Nothing.is)
-
-pub returns-in-Byte : goal.returns-in-Byte
-returns-in-Byte c = sym (tested c.args.slot _ c.well_formed.0 ∙ ap slot_test c.in-Byte.is)
+returns-in-Nothing c =
+    let t : slot_fits c.args.slot ≡ slot_test c.args.slot = tested c.args.slot _ c.well_formed.0 in
+    grind arith
 
 pub returns-in-UpTo : goal.returns-in-UpTo
 returns-in-UpTo c = sym (tested c.args.slot _ c.well_formed.0 ∙ ap slot_test c.in-UpTo.is)
 
 pub returns-in-Between : goal.returns-in-Between
-returns-in-Between c = c.between.ensures ∙ sym (tested c.args.slot _ c.well_formed.0 ∙ ap slot_test c.in-Between.is)
+returns-in-Between c =
+    let t : slot_fits c.args.slot ≡ slot_test c.args.slot = tested c.args.slot _ c.well_formed.0 in
+    grind arith
 
 pub returns-in-InformationType : goal.returns-in-InformationType
 returns-in-InformationType c = c.is_information_type.ensures ∙ sym (tested c.args.slot _ c.well_formed.0 ∙ ap slot_test c.in-InformationType.is)
@@ -23,29 +27,11 @@ returns-in-InformationType c = c.is_information_type.ensures ∙ sym (tested c.a
 pub returns-in-AlertStatus : goal.returns-in-AlertStatus
 returns-in-AlertStatus c = c.is_alert_status.ensures ∙ sym (tested c.args.slot _ c.well_formed.0 ∙ ap slot_test c.in-AlertStatus.is)
 
-pub returns-in-Word : goal.returns-in-Word
-returns-in-Word c = sym (tested c.args.slot _ c.well_formed.0 ∙ ap slot_test c.in-Word.is)
-
-pub returns-in-Long : goal.returns-in-Long
-returns-in-Long c = sym (tested c.args.slot _ c.well_formed.0 ∙ ap slot_test c.in-Long.is)
-
-pub returns-in-SignedByte : goal.returns-in-SignedByte
-returns-in-SignedByte c = sym (tested c.args.slot _ c.well_formed.0 ∙ ap slot_test c.in-SignedByte.is)
-
-pub returns-in-SignedLong : goal.returns-in-SignedLong
-returns-in-SignedLong c = sym (tested c.args.slot _ c.well_formed.0 ∙ ap slot_test c.in-SignedLong.is)
-
 pub returns-in-HighFirst : goal.returns-in-HighFirst
 returns-in-HighFirst c = sym (tested c.args.slot _ c.well_formed.0 ∙ ap slot_test c.in-HighFirst.is)
 
 pub returns-in-Float : goal.returns-in-Float
-returns-in-Float c = c.is_finite.ensures ∙ sym (tested c.args.slot _ c.well_formed.0 ∙ ap slot_test c.in-Float.is)
-
-pub returns-in-BootString : goal.returns-in-BootString
-returns-in-BootString c = sym (tested c.args.slot _ c.well_formed.0 ∙ ap slot_test c.in-BootString.is)
-
-pub returns-in-LockString : goal.returns-in-LockString
-returns-in-LockString c = sym (tested c.args.slot _ c.well_formed.0 ∙ ap slot_test c.in-LockString.is)
+returns-in-Float c = c.is_finite.ensures.value ∙ finite_same c.in-Float.x ∙ sym (tested c.args.slot _ c.well_formed.0 ∙ ap slot_test c.in-Float.is)
 
 pub returns-in-StartByte : goal.returns-in-StartByte
 returns-in-StartByte c = c.is_start_byte.ensures ∙ sym (tested c.args.slot _ c.well_formed.0 ∙ ap slot_test c.in-StartByte.is)

@@ -1,12 +1,7 @@
-use Prim.Native.Nat.{◌-◌, ◌≤◌}
 use mathlib.Core.Path.{◌≡◌}
-use Rattle.rules.specs.Layout.{places}
 use Rattle.rules.specs.Cells.{sound}
 use Rattle.soundness.proofs.Sound.{sound_from}
 use Rattle.soundness.proofs.is_sound.Given as goal
 
 abbrev pub invariant-loop-i : goal.invariant-loop-i
-invariant-loop-i l = (l.i ≤ places) × (sound l.table ≡ sound_from l.table l.i)
-
-abbrev pub decreases-loop-i : goal.decreases-loop-i
-decreases-loop-i l = places - l.i
+invariant-loop-i l = sound l.table ≡ sound_from l.table l.i

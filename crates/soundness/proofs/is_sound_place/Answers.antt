@@ -1,4 +1,6 @@
-use mathlib.Core.Path.{◌∙◌}
+use mathlib.Core.Path.{◌∙◌, ap}
+use lib.ListN.{length}
+use Rattle.soundness.proofs.Places.{place_size}
 use Rattle.soundness.proofs.ExactCells.{empty_zeros}
 use Rattle.soundness.proofs.Sound.{free_sound, record_alone}
 use Rattle.soundness.proofs.Rows.{row_alone}
@@ -8,7 +10,7 @@ pub returns-then-place-eq-FREE : goal.returns-then-place-eq-FREE
 returns-then-place-eq-FREE c =
     let a = c.args in
     let at = c.place_at-place in
-    c.are_zeros.ensures ∙ empty_zeros at.result.now at.ensures.1 ∙ free_sound a.table.now at.result.now a.i at.ensures.0 c.if-place-eq-FREE.true
+    c.are_zeros.ensures ∙ empty_zeros at.result.now (ap length at.ensures ∙ place_size a.table.now a.i c.told-table c.requires.1) ∙ free_sound a.table.now at.result.now a.i at.ensures c.if-place-eq-FREE.true
 
 pub returns : goal.returns
 returns c =
@@ -16,4 +18,4 @@ returns c =
     let at = c.place_at-place in
     let used = c.if-place-eq-FREE.false in
     c.is_sound_record.ensures
-    ∙ record_alone a.table.now at.result.now a.i at.ensures.0 used (row_alone a.table.now a.row.now at.result.now a.i c.requires.2 c.requires.1 at.ensures.0 used)
+    ∙ record_alone a.table.now at.result.now a.i at.ensures used (row_alone a.table.now a.row.now at.result.now a.i c.requires.1 c.requires.0 at.ensures used)

@@ -13,49 +13,43 @@ use Rattle.slots.specs.declared.Slot.{Slot}
 use Rattle.slots.specs.declared.Slot.TheVariants as Slot'
 use Rattle.writer.proofs.put_slots.Goals as goal
 
-pub loop-i-init : goal.loop-i-init
-loop-i-init c = record { few = omega arith; narrow = omega arith; place = refl; done = sym (overwrite_nothing c.args.out.now type_place); rest = c.requires.1 }
+pub loop-slot-init : goal.loop-slot-init
+loop-slot-init c = record { few = omega arith; narrow = omega arith; place = refl; done = sym (overwrite_nothing c.args.out.now type_place); rest = c.requires.0 }
 
 pub put_slot-requires : goal.put_slot-requires
 put_slot-requires c =
     let a = c.args in
     let pre = c.requires in
-    let loop = c.loop-i in
-    put_here a.out.now a.slots Slot'.Nothing loop.out loop.at loop.i loop.invariant
-    c.loop-i-test.true pre.0 pre.2
+    let loop = c.loop-slot in
+    put_here a.out.now a.slots.now Slot'.Nothing loop.out loop.at loop.slot-index loop.invariant
+    c.loop-slot-test.true c.told-slots pre.1
 
 pub overflow_add-at : goal.overflow_add-at
 overflow_add-at c =
-    let loop = c.loop-i in
+    let loop = c.loop-slot in
     record { fits = omega (arith, c.width-at.ensures.1, loop.invariant.narrow, loop.invariant.few) }
 
-pub overflow_add-i : goal.overflow_add-i
-overflow_add-i c = record { fits = omega (arith, c.loop-i-test.true) }
-
-pub loop-i-smaller : goal.loop-i-smaller
-loop-i-smaller c = omega (arith, c.loop-i-test.true)
-
-pub loop-i-preserved : goal.loop-i-preserved
-loop-i-preserved c =
+pub loop-slot-preserved : goal.loop-slot-preserved
+loop-slot-preserved c =
     let a = c.args in
     let pre = c.requires in
-    let loop = c.loop-i in
+    let loop = c.loop-slot in
     let put_slot = c.put_slot in
-    let slots : List Slot = a.slots in
-    let i : ℕ = loop.i in
+    let slots : List Slot = a.slots.now in
+    let i : ℕ = loop.slot-index in
     let size : c.width-at.result ≡ length (slot_bytes (get_or slots i Slot'.Nothing)) = c.width-at.ensures.0 in
     rw size
     (put_one a.out.now slots Slot'.Nothing loop.out loop.at i put_slot.new.out loop.invariant
-    c.loop-i-test.true pre.0 (omega (arith, size, c.width-at.ensures.1)) pre.2 put_slot.ensures)
+    c.loop-slot-test.true c.told-slots (omega (arith, size, c.width-at.ensures.1)) pre.1 put_slot.ensures)
 
 pub shape_of-out : goal.shape_of-out
 shape_of-out c =
     let a = c.args in
-    put_length a.out.now a.slots c.loop-i.out c.loop-i.at c.loop-i.i c.loop-i.invariant c.requires.2
+    put_length a.out.now a.slots.now c.loop-slot.out c.loop-slot.at c.loop-slot.slot-index c.loop-slot.invariant c.requires.1
 
 pub returns : goal.returns
 returns c =
     let a = c.args in
-    let slots : List Slot = a.slots in
-    let i : ℕ = c.loop-i.i in
-    c.loop-i.invariant.done ∙ ap (λ (l : List Slot). overwrite a.out.now type_place (slots_bytes l)) (take_all i slots (omega (arith, c.requires.0, c.loop-i-test.false)))
+    let slots : List Slot = a.slots.now in
+    let i : ℕ = c.loop-slot.slot-index in
+    c.loop-slot.invariant.done ∙ ap (λ (l : List Slot). overwrite a.out.now type_place (slots_bytes l)) (take_all i slots (omega (arith, c.told-slots, c.loop-slot-test.false)))

@@ -1,7 +1,11 @@
-use Prim.Native.Nat.{◌+◌}
+use Prim.Native.Nat.{ℕ, ◌+◌}
+use native.Mathlib.Omega.{arith}
+use mathlib.Core.List.{List, []}
+use Rattle.protocol.specs.Field.{Value}
+use Rattle.slots.specs.Slot.{word_fields}
 use native.Mathlib.Nat.{add-zero}
-use mathlib.Core.Path.{refl, sym, ◌∙◌, ap}
-use Rattle.protocol.specs.Form.{nothing, layout}
+use mathlib.Core.Path.{◌≡◌, refl, sym, ◌∙◌, ap}
+use Rattle.protocol.specs.Form.{nothing, layout, least_rest}
 use Rattle.protocol.specs.Answer.{form_of}
 use Rattle.protocol.specs.Decode.{smallest_size}
 use Rattle.protocol.specs.declared.Message.{Message}
@@ -12,15 +16,11 @@ use Rattle.writer.proofs.smallest_size.Goals as goal
 
 pub returns-in-PropertyText : goal.returns-in-PropertyText
 unfolding layout
-returns-in-PropertyText c = smallest_of c.in-PropertyText.is c.requires c.widths.ensures.0 (λ vs. refl)
-
-pub returns-in-ModeText : goal.returns-in-ModeText
-unfolding layout
-returns-in-ModeText c = smallest_of c.in-ModeText.is c.requires c.widths.ensures.0 (λ vs. refl)
-
-pub returns-in-PortValue : goal.returns-in-PortValue
-unfolding layout
-returns-in-PortValue c = smallest_of c.in-PortValue.is c.requires c.widths.ensures.0 (λ vs. refl)
+returns-in-PropertyText c =
+    let m = c.args.m in
+    let none : (vs : List Value) → word_fields (layout (form_of m)).rest vs ≡ [] = λ vs. grind arith in
+    let one : least_rest (layout (form_of m)).rest ≡ 1 = grind arith in
+    ap (λ (n : ℕ). type_place + c.widths.result + n) (sym one) ∙ smallest_is m c.args.slots c.requires c.widths.result c.widths.ensures.0 (layout (form_of m)).rest refl none
 
 pub returns-in-PortCombinations : goal.returns-in-PortCombinations
 unfolding layout
@@ -29,14 +29,6 @@ returns-in-PortCombinations c = sym (ap (λ (m : Message). smallest_size (form_o
 pub returns-in-OutputFeedback : goal.returns-in-OutputFeedback
 unfolding layout
 returns-in-OutputFeedback c = smallest_of c.in-OutputFeedback.is c.requires c.widths.ensures.0 (λ vs. refl)
-
-pub returns-in-ModeDatasets : goal.returns-in-ModeDatasets
-unfolding layout
-returns-in-ModeDatasets c = smallest_of c.in-ModeDatasets.is c.requires c.widths.ensures.0 (λ vs. refl)
-
-pub returns-in-PortValueCombined : goal.returns-in-PortValueCombined
-unfolding layout
-returns-in-PortValueCombined c = smallest_of c.in-PortValueCombined.is c.requires c.widths.ensures.0 (λ vs. refl)
 
 pub returns-in_default : goal.returns-in_default
 returns-in_default c =

@@ -9,23 +9,23 @@ use Rattle.slots.specs.declared.Slot.{Slot}
 use Rattle.slots.specs.declared.Slot.TheVariants as Slot'
 use Rattle.writer.proofs.widths.Goals as goal
 
-pub loop-i-init : goal.loop-i-init
-loop-i-init c = (omega arith, omega arith, omega arith)
+pub loop-slot-init : goal.loop-slot-init
+loop-slot-init c = (omega arith, omega arith, omega arith)
 
 pub overflow_add-total : goal.overflow_add-total
-overflow_add-total c = record { fits = omega (arith, c.width-total.ensures.1, c.loop-i.invariant.1, c.loop-i.invariant.0) }
+overflow_add-total c = record { fits = omega (arith, c.width-total.ensures.1, c.loop-slot.invariant.1, c.loop-slot.invariant.0) }
 
-pub loop-i-preserved : goal.loop-i-preserved
-loop-i-preserved c =
-    let slots : List Slot = c.args.slots in
-    let i : ℕ = c.loop-i.i in
-    let total : ℕ = c.loop-i.total in
-    let next = width_here slots Slot'.Nothing i total (omega (arith, c.requires, c.loop-i-test.true)) c.loop-i.invariant.2 in
-    (omega (arith, c.loop-i-test.true), omega (arith, c.width-total.ensures.1, c.loop-i.invariant.1), rw c.width-total.ensures.0 next)
+pub loop-slot-preserved : goal.loop-slot-preserved
+loop-slot-preserved c =
+    let slots : List Slot = c.args.slots.now in
+    let i : ℕ = c.loop-slot.slot-index in
+    let total : ℕ = c.loop-slot.total in
+    let next = width_here slots Slot'.Nothing i total (omega (arith, c.told-slots, c.loop-slot-test.true)) c.loop-slot.invariant.2 in
+    (omega (arith, c.loop-slot-test.true), omega (arith, c.width-total.ensures.1, c.loop-slot.invariant.1), rw c.width-total.ensures.0 next)
 
 pub returns : goal.returns
 returns c =
-    let slots : List Slot = c.args.slots in
-    let i : ℕ = c.loop-i.i in
-    let none : length (slots_bytes (drop i slots)) ≡ 0 = ap (λ (l : List Slot). length (slots_bytes l)) (drop_of_length-le slots {i = i} (omega (arith, c.requires, c.loop-i-test.false))) in
-    (omega (arith, none, c.loop-i.invariant.2), omega (arith, c.loop-i.invariant.1, c.loop-i.invariant.0))
+    let slots : List Slot = c.args.slots.now in
+    let i : ℕ = c.loop-slot.slot-index in
+    let none : length (slots_bytes (drop i slots)) ≡ 0 = ap (λ (l : List Slot). length (slots_bytes l)) (drop_of_length-le slots {i = i} (omega (arith, c.told-slots, c.loop-slot-test.false))) in
+    (omega (arith, none, c.loop-slot.invariant.2), omega (arith, c.loop-slot.invariant.1, c.loop-slot.invariant.0))

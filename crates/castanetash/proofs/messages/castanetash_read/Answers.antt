@@ -5,7 +5,7 @@ use lib.ListN.{length}
 use Rattle.protocol.specs.Decode as Decode
 use Rattle.protocol.specs.Decode.{decode, open_part}
 use Rattle.protocol.specs.declared.Way.{Way}
-use Rattle.answers.proofs.Fills.{filled_as}
+use Rattle.answers.proofs.Fills.{numbered_as}
 use Rattle.castanetash.specs.Answers.{reading_row, read_answer}
 use Rattle.castanetash.proofs.OpenPart.{open_short}
 use Rattle.castanetash.proofs.messages.castanetash_read.Goals as goal
@@ -21,4 +21,4 @@ put_reading-requires c = rw c.open_part-open.ensures (open_short _ _)
 pub returns : goal.returns
 returns c =
     let a = c.args in
-    filled_as a.row.now (row_of a.message.now c.way_of-w.ensures (ap length c.open_part-open.ensures) c.read-reading.ensures) c.put_reading.ensures
+    numbered_as a.row.now (row_of a.message.now c.way_of-w.ensures (ap length c.open_part-open.ensures) c.read-reading.ensures) c.call_number.ensures c.put_reading.ensures

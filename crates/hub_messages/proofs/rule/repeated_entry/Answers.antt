@@ -1,24 +1,16 @@
-use borrow.Author.Rules.{rules}
-use mathlib.Core.Path.{sym, ◌∙◌}
-use lib.Seq.{length-take-le}
-use Rattle.hub_messages.proofs.Entries.{from_first, is_repeat, no_repeat, none_repeated}
+use Rattle.std.proofs.Common.{◌≡◌, ℕ, true, false, arith, rules, tests}
+use Rattle.std.proofs.lemmas.Iterator.{first_from_Range}
+use Rattle.std.proofs.lemmas.List.{get_or_read}
+use Rattle.protocol.specs.Form.{first_time}
+use Rattle.hub_messages.proofs.Runs.{one_of_any, found}
 use Rattle.hub_messages.proofs.rule.repeated_entry.Goals as goal
 
-pub loop-i-init : goal.loop-i-init
-loop-i-init c = (search rules, from_first c.args.entries.now)
-
-pub slice_bounds-is_among-end : goal.slice_bounds-is_among-end
-slice_bounds-is_among-end c = sym (length-take-le _ c.args.entries.now c.loop-i.invariant.0)
-
-pub returns-then-is_among : goal.returns-then-is_among
-returns-then-is_among c =
-    let loop = c.loop-i in
-    is_repeat c.args.entries.now loop.i loop.invariant.1 c.loop-i-test.true (sym c.is_among.ensures ∙ c.if-is_among.true)
-
-pub loop-i-preserved : goal.loop-i-preserved
-loop-i-preserved c =
-    let loop = c.loop-i in
-    (search rules, no_repeat c.args.entries.now loop.i loop.invariant.1 c.loop-i-test.true (sym c.is_among.ensures ∙ c.if-is_among.false))
-
 pub returns : goal.returns
-returns c = none_repeated c.args.entries.now c.loop-i.i c.loop-i.invariant.1 c.loop-i-test.false
+unfolding first_time
+returns c =
+    let run = c.args.entries.now in
+    let f = found first_time run c.find.result
+    (first_from_Range _ _ _ _ (λ (i : ℕ). first_time run i ≡ false) (λ (i : ℕ). first_time run i ≡ true) c.find.ensures.ran
+    (λ x q k. grind (arith, tests, get_or_read, one_of_any))
+    (λ x q k. (search rules, grind (arith, tests, get_or_read, one_of_any)))) in
+    record { first = f.first; inside = f.inside }

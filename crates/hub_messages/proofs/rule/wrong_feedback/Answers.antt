@@ -1,19 +1,16 @@
-use borrow.Author.Rules.{rules}
-use Rattle.hub_messages.proofs.Feedback.{at_first, is_wrong, goes_on, at_end}
+use Rattle.std.proofs.Common.{◌≡◌, ℕ, true, false, arith, rules, tests}
+use Rattle.std.proofs.lemmas.Iterator.{first_from_Range}
+use Rattle.std.proofs.lemmas.List.{get_or_read}
+use Rattle.protocol.specs.Form.{feedback}
+use Rattle.hub_messages.proofs.Runs.{found}
 use Rattle.hub_messages.proofs.rule.wrong_feedback.Goals as goal
 
-pub loop-i-init : goal.loop-i-init
-loop-i-init c = (search rules, at_first c.args.pairs.now)
-
-pub returns-then-is_over : goal.returns-then-is_over
-returns-then-is_over c =
-    let loop = c.loop-i in
-    is_wrong c.args.pairs.now loop.i loop.invariant.1 c.loop-i-test.true c.if-is_over.true
-
-pub loop-i-preserved : goal.loop-i-preserved
-loop-i-preserved c =
-    let loop = c.loop-i in
-    (search rules, goes_on c.args.pairs.now loop.i loop.invariant.1 c.loop-i-test.true c.if-is_over.false)
-
 pub returns : goal.returns
-returns c = at_end c.args.pairs.now c.loop-i.i c.loop-i.invariant.1 c.loop-i-test.false
+unfolding feedback
+returns c =
+    let run = c.args.pairs.now in
+    let f = found feedback run c.find.result
+    (first_from_Range _ _ _ _ (λ (i : ℕ). feedback run i ≡ false) (λ (i : ℕ). feedback run i ≡ true) c.find.ensures.ran
+    (λ x q k. grind (arith, tests, get_or_read))
+    (λ x q k. (search rules, grind (arith, tests, get_or_read)))) in
+    record { first = f.first; inside = f.inside }

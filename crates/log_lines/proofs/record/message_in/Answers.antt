@@ -8,5 +8,5 @@ use Rattle.log_lines.proofs.record.message_in.Goals as goal
 pub returns : goal.returns
 returns c =
     let n : ℕ = c.message_size.result in
-    c.head.ensures ∙ ap (λ (l : List ℕ). take n l) c.tail.ensures
+    c.front.ensures ∙ ap (λ (l : List ℕ). take n l) c.tail.ensures
     ∙ message_in_lem 128 c.args.s.now n c.message_size.ensures.0

@@ -1,13 +1,8 @@
-use Prim.Native.Nat.{◌≤◌}
 use mathlib.Core.Path.{◌≡◌}
 use mathlib.Core.Bool.{◌&&◌}
-use Rattle.rules.specs.Layout.{mode_count}
 use Rattle.soundness.specs.Soundness.{formats_in_fit}
 use Rattle.soundness.proofs.FactsFit.{formats_below}
 use Rattle.soundness.proofs.record.formats_fit.Given as goal
 
 abbrev pub invariant-loop-mode : goal.invariant-loop-mode
-invariant-loop-mode l = (l.mode ≤ mode_count) × (formats_in_fit l.place ≡ (l.fit && formats_below l.place l.mode))
-
-abbrev pub decreases-loop-mode : goal.decreases-loop-mode
-decreases-loop-mode l = l.mode
+invariant-loop-mode l = formats_in_fit l.place ≡ (l.fit && formats_below l.place l.mode)

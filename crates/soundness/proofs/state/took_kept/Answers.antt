@@ -11,7 +11,7 @@ use Rattle.soundness.proofs.Loops.{first_of, second_of}
 use Rattle.soundness.proofs.state.took_kept.Goals as goal
 
 pub same_cells-requires : goal.same_cells-requires
-same_cells-requires c = simp (length-take, length-drop) (omega (arith, c.requires))
+same_cells-requires c = simp (length-take, length-drop) (omega (arith, c.told-place))
 
 pub returns-then-place-eq-COMBINED : goal.returns-then-place-eq-COMBINED
 unfolding took_kept

@@ -1,23 +1,13 @@
-use mathlib.Core.Path.{◌∙◌}
-use borrow.Author.Tests.{le-ltb}
+use mathlib.Core.Path.{refl}
+use borrow.Author.Rules.{rules}
+use Rattle.rules.specs.Cells.{record_at, table_at}
+use Rattle.rules.specs.Table.{view_of_table}
 use Rattle.rules.specs.WellFormed.{is_joined_to}
-use Rattle.rules.specs.Cells.{record_at}
-use Rattle.soundness.proofs.Rows.{row_found}
-use Rattle.soundness.proofs.WiringFits.{look_nowhere, look_there}
+use Rattle.soundness.proofs.WiringFits.{looked}
 use Rattle.soundness.proofs.wiring.is_joined_to.Goals as goal
 
-pub returns-then-i-lt-PLACES : goal.returns-then-i-lt-PLACES
+pub returns : goal.returns
 unfolding record_at
-returns-then-i-lt-PLACES c =
+returns c =
     let a = c.args in
-    let find = c.place_in-i in
-    let at = c.place_at in
-    let is = find.ensures ∙ row_found a.table.now a.row.now c.requires.0 c.requires.1 a.port c.requires.2 in
-    c.joined_to.ensures ∙ look_there (is_joined_to a.pair) a.table.now c.requires.0 a.port find.result is at.result.now c.if-i-lt-PLACES.true at.ensures.0
-
-pub returns-else-i-lt-PLACES : goal.returns-else-i-lt-PLACES
-returns-else-i-lt-PLACES c =
-    let a = c.args in
-    let find = c.place_in-i in
-    let is = find.ensures ∙ row_found a.table.now a.row.now c.requires.0 c.requires.1 a.port c.requires.2 in
-    le-ltb _ _ c.if-i-lt-PLACES.false ∙ look_nowhere (is_joined_to a.pair) a.table.now c.requires.0 a.port find.result is c.if-i-lt-PLACES.false
+    looked (is_joined_to a.pair) (view_of_table (table_at a.table.now) a.port) refl c.is_some_and.result _ c.record_in.result c.record_in.ensures c.is_some_and.ensures (λ place q. search rules)

@@ -1,12 +1,8 @@
-use Prim.Native.Nat.{suc, ◌-◌, ◌≤◌}
 use mathlib.Core.Path.{◌≡◌}
-use lib.ListN.{length, drop}
+use Rattle.std.specs.Slice.Iter.{chunks_rest, chunks_size}
 use Rattle.rules.specs.Judge.{all_present, ports_named}
 use Rattle.rules.specs.Offer.{view_of_cells}
 use Rattle.table.proofs.judge.feedback.Given as goal
 
-abbrev pub invariant-loop-i : goal.invariant-loop-i
-invariant-loop-i l = (l.i ≤ suc (length l.pairs)) × (all_present (view_of_cells l.table) (ports_named l.pairs) ≡ all_present (view_of_cells l.table) (ports_named (drop l.i l.pairs)))
-
-abbrev pub decreases-loop-i : goal.decreases-loop-i
-decreases-loop-i l = suc (length l.pairs) - l.i
+abbrev pub invariant-loop-pair : goal.invariant-loop-pair
+invariant-loop-pair l = (chunks_size l.pair-iterator ≡ 2) × (all_present (view_of_cells l.table.cells.now) (ports_named l.pairs) ≡ all_present (view_of_cells l.table.cells.now) (ports_named (chunks_rest l.pair-iterator)))

@@ -1,11 +1,14 @@
-use mathlib.Core.Path.{sym, ◌∙◌, ap}
-use borrow.Author.Tests.{eq-eqb, ne_eqb}
+use mathlib.Core.Path.{ap}
+use mathlib.Core.Bool.{Bool}
+use Rattle.std.specs.Prelude.{Some, None}
+use Rattle.rules.specs.Answer.{tested}
 use Rattle.rules.specs.Judge.{refusal_if_full}
-use Rattle.soundness.proofs.Places.{free_is}
+use Rattle.soundness.proofs.Found.{is_full}
+use Rattle.rules.proofs.CellsSound.{sound_length}
 use Rattle.table.proofs.judge.full_refusal.Goals as goal
 
-pub returns-then-free_place-eq-PLACES : goal.returns-then-free_place-eq-PLACES
-returns-then-free_place-eq-PLACES c = let a = c.args in sym (ap refusal_if_full (free_is a.table.now c.requires c.free_place.result c.free_place.ensures.1 ∙ eq-eqb _ _ c.if-free_place-eq-PLACES.true))
+pub returns-in-Some : goal.returns-in-Some
+returns-in-Some c = ap (λ (b : Bool). tested (refusal_if_full b)) (is_full c.args.table.cells.now (sound_length c.args.table.cells.now c.args.table.tested) (Some _) c.in-Some.ensures)
 
-pub returns-else-free_place-eq-PLACES : goal.returns-else-free_place-eq-PLACES
-returns-else-free_place-eq-PLACES c = let a = c.args in sym (ap refusal_if_full (free_is a.table.now c.requires c.free_place.result c.free_place.ensures.1 ∙ ne_eqb _ _ c.if-free_place-eq-PLACES.false))
+pub returns-in-None : goal.returns-in-None
+returns-in-None c = ap (λ (b : Bool). tested (refusal_if_full b)) (is_full c.args.table.cells.now (sound_length c.args.table.cells.now c.args.table.tested) None c.in-None.ensures)

@@ -1,8 +1,7 @@
-use mathlib.Core.Path.{sym, ◌∙◌, ap}
-use Rattle.rules.specs.Facts.{known}
-use Rattle.soundness.proofs.Places.{found}
-use Rattle.table.proofs.Judging.{known_at}
+use mathlib.Core.Path.{◌∙◌}
+use Rattle.soundness.proofs.Found.{is_known}
+use Rattle.rules.proofs.CellsSound.{sound_length}
 use Rattle.table.proofs.judge.is_present.Goals as goal
 
 pub returns : goal.returns
-returns c = let a = c.args in sym (ap known (found a.table.now c.requires a.port c.find.result c.find.ensures.1) ∙ known_at a.table.now c.find.result)
+returns c = c.is_some.ensures ∙ is_known c.args.table.cells.now (sound_length c.args.table.cells.now c.args.table.tested) c.args.port c.find.result c.find.ensures

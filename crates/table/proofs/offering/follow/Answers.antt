@@ -32,30 +32,6 @@ detach-requires c =
     let cells = c.args.table.now in
     (p.0, detach_ready cells a.message.now a.e p.2 _ c.in-Detach.is)
 
-pub returns-in-ToPort : goal.returns-in-ToPort
-returns-in-ToPort c =
-    let a = c.args in
-    let cells = c.args.table.now in
-    changed_as cells c.tell.new.table a.message.now a.e _ c.in-ToPort.is c.tell.ensures
-
-pub returns-in-Attach : goal.returns-in-Attach
-returns-in-Attach c =
-    let a = c.args in
-    let cells = c.args.table.now in
-    changed_as cells c.attach.new.table a.message.now a.e _ c.in-Attach.is c.attach.ensures
-
-pub returns-in-AttachVirtual : goal.returns-in-AttachVirtual
-returns-in-AttachVirtual c =
-    let a = c.args in
-    let cells = c.args.table.now in
-    changed_as cells c.attach_virtual.new.table a.message.now a.e _ c.in-AttachVirtual.is c.attach_virtual.ensures
-
-pub returns-in-Detach : goal.returns-in-Detach
-returns-in-Detach c =
-    let a = c.args in
-    let cells = c.args.table.now in
-    changed_as cells c.detach.new.table a.message.now a.e _ c.in-Detach.is c.detach.ensures
-
 pub returns-in-Empty : goal.returns-in-Empty
 returns-in-Empty c =
     let p = c.requires in
