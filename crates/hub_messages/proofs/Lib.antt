@@ -1,2 +1,4 @@
 pub mod Runs
 pub mod FixedText
+pub mod Pairs
+pub mod SignedRule

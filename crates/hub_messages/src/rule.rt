@@ -76,12 +76,14 @@ pub fn is_end_state(state: u8) -> bool
     matches!(state, 0 | 126 | 127)
 }
 
-// 82: the index of the first feedback over 31 among pairs of port and feedback.
+// 82: the index of the first feedback over 31 among pairs of port and feedback. The search goes over pairs, since one over
+// bytes takes twice as many steps.
 pub fn wrong_feedback(pairs: &[u8]) -> Option<usize>
     ensures first { MatchOption result (wrong_byte Form.feedback_pairs pairs.now ≡ none) (λ i. wrong_byte Form.feedback_pairs pairs.now ≡ some i) }
     ensures inside { IfSome result (λ i. i < length pairs.now) }
 {
-    (0..pairs.len()).find(|&i| i % 2 == 1 && 31 < pairs[i])
+    let pair = (0..pairs.len() / 2).find(|&k| 31 < pairs[2 * k + 1])?;
+    Some(2 * pair + 1)
 }
 
 // 42: the index of the first entry that is one of those before it.

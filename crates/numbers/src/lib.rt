@@ -8,12 +8,15 @@ ghost use Rattle.protocol.specs.Number.{little_endian, big_endian, twos_compleme
 
 use std::array;
 
-// So many bytes from a place on.
+// So many bytes from a place on. Where all are there they are taken at once, with one test.
 fn bytes_at<const N: usize>(s: &[u8], at: usize) -> [u8; N]
     ensures { (k : ℕ) → k < N → get_or result k 0 ≡ get_or s.now (at + k) 0 }
 {
     let rest = s.get(at..).unwrap_or(&[]);
-    array::from_fn(|k| rest.get(k).copied().unwrap_or(0))
+    match rest.first_chunk::<N>() {
+        Some(bytes) => *bytes,
+        None => array::from_fn(|k| rest.get(k).copied().unwrap_or(0)),
+    }
 }
 
 // Two bytes, least significant first.

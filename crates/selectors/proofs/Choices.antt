@@ -35,6 +35,9 @@ RightFor way f vs c = (opens : List ℕ) → encode_values way f vs opens ≡ af
 abbrev pub Right : Way → Message → Choice → Type 0
 Right way m c = (opens : List ℕ) → encode way m opens ≡ after_selectors c (own m opens)
 
+pub right_by : (way : Way) (m n : Message) (r c : Choice) → m ≡ n → r ≡ c → Right way n c → Right way m r
+right_by way m n r c e k x = rw (e, k) x
+
 -- ---- types that go one way
 
 one_test : (b : Bool) (x : Encoded) (p : ℕ) → cond b x (refused 7 p) ≡ after_selectors (cond b (Ok tt) (Err (Refusal'.OutsideList p))) x

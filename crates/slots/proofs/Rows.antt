@@ -63,3 +63,7 @@ module _ (port e0 e1 e2 e3 e4 e5 e6 e7 : ℕ) where
 
 pub combination_slots : (port : ℕ) (k : Combinations) → Slotted (Message'.PortCombinations port k) (word_row port k.entry0 k.entry1 k.entry2 k.entry3 k.entry4 k.entry5 k.entry6 k.entry7 k.count)
 combination_slots port k = any_count port k.entry0 k.entry1 k.entry2 k.entry3 k.entry4 k.entry5 k.entry6 k.entry7 k.count
+
+-- slots and a message that are known by equations
+pub slotted : {m n : Message} {r s : List Slot} → m ≡ n → r ≡ s → Slotted n s → Slotted m r
+slotted e k x = rw (e, k) x

@@ -1,5 +1,5 @@
 // The fields of each form with their values, from the type byte on.
-ghost use Rattle.std.specs.Prelude.{◌≡◌, ◌≤◌, ◌-◌, ◌∷◌, ◌++◌, length, replicate};
+ghost use Rattle.std.specs.Prelude.{◌≡◌, ◌∷◌, []};
 ghost use Rattle.protocol.specs.declared.Message.TheVariants as Message';
 ghost use Rattle.slots.specs.declared.Slot.TheVariants as Slot';
 ghost use Rattle.slots.specs.Slot.{Slotted, word_slot};
@@ -8,15 +8,33 @@ use crate::Slot;
 use hub_messages::property::greatest;
 use protocol::{Combinations, Message};
 
-// A message of these fields; nothing stands in the slots that are left.
-fn row(code: u8, fields: &[Slot]) -> [Slot; 11]
-    requires { length fields.now ≤ 10 }
-    ensures { result ≡ Slot'.Byte code ∷ (fields.now ++ replicate (10 - length fields.now) Slot'.Nothing) }
+// A message of nine fields, of which those at the end may be nothing. They are passed one by one: a list of slots for each message is
+// one more array that has to be cleared, in every call.
+fn row(
+    code: u8,
+    a: Slot,
+    b: Slot,
+    c: Slot,
+    d: Slot,
+    e: Slot,
+    f: Slot,
+    g: Slot,
+    h: Slot,
+    i: Slot,
+) -> [Slot; 11]
+    ensures { result ≡ Slot'.Byte code ∷ a ∷ b ∷ c ∷ d ∷ e ∷ f ∷ g ∷ h ∷ i ∷ Slot'.Nothing ∷ [] }
 {
-    let mut slots = [Slot::Nothing; 11];
-    slots[0] = Slot::Byte(code);
-    slots[1..=fields.len()].copy_from_slice(fields);
-    slots
+    [Slot::Byte(code), a, b, c, d, e, f, g, h, i, Slot::Nothing]
+}
+
+// The same of the fields that a message has; nothing stands in the slots that are left.
+macro_rules! row {
+    ($code:expr, $a:expr, $b:expr, $c:expr, $d:expr, $e:expr, $f:expr, $g:expr, $h:expr, $i:expr) => {
+        row($code, $a, $b, $c, $d, $e, $f, $g, $h, $i)
+    };
+    ($code:expr $(, $field:expr)*) => {
+        row!($code $(, $field)*, Slot::Nothing)
+    };
 }
 
 // The entry at an index of a 43's list; nothing from its count on.
@@ -59,157 +77,146 @@ pub fn slots_of(m: Message) -> [Slot; 11]
         Message::PropertyCommand {
             property,
             operation,
-        } => row(0x01, &[Slot::Byte(property), Slot::Byte(operation)]),
+        } => row!(0x01, Slot::Byte(property), Slot::Byte(operation)),
         Message::PropertyText {
             property,
             operation,
-        } => row(0x01, &[Slot::Byte(property), Slot::Byte(operation)]),
+        } => row!(0x01, Slot::Byte(property), Slot::Byte(operation)),
         Message::PropertyByte {
             property,
             operation,
             value,
-        } => row(
+        } => row!(
             0x01,
-            &[
-                Slot::Byte(property),
-                Slot::Byte(operation),
-                Slot::UpTo {
-                    most: greatest(property),
-                    value,
-                },
-            ],
+            Slot::Byte(property),
+            Slot::Byte(operation),
+            Slot::UpTo {
+                most: greatest(property),
+                value,
+            }
         ),
-        Message::PropertyRssi { operation, rssi } => row(
+        Message::PropertyRssi { operation, rssi } => row!(
             0x01,
-            &[Slot::Byte(5), Slot::Byte(operation), Slot::SignedByte(rssi)],
+            Slot::Byte(5),
+            Slot::Byte(operation),
+            Slot::SignedByte(rssi)
         ),
         Message::PropertyVersion {
             property,
             operation,
             version,
-        } => row(
+        } => row!(
             0x01,
-            &[
-                Slot::Byte(property),
-                Slot::Byte(operation),
-                Slot::SignedLong(version),
-            ],
+            Slot::Byte(property),
+            Slot::Byte(operation),
+            Slot::SignedLong(version)
         ),
-        Message::PropertyProtocol { operation, version } => row(
+        Message::PropertyProtocol { operation, version } => row!(
             0x01,
-            &[Slot::Byte(10), Slot::Byte(operation), Slot::Word(version)],
+            Slot::Byte(10),
+            Slot::Byte(operation),
+            Slot::Word(version)
         ),
         Message::PropertyAddress {
             property,
             operation,
             address,
-        } => row(
+        } => row!(
             0x01,
-            &[
-                Slot::Byte(property),
-                Slot::Byte(operation),
-                Slot::HighFirst(address),
-            ],
+            Slot::Byte(property),
+            Slot::Byte(operation),
+            Slot::HighFirst(address)
         ),
-        Message::HubAction { action } => row(0x02, &[Slot::Byte(action)]),
-        Message::AlertCommand { alert, operation } => row(
+        Message::HubAction { action } => row!(0x02, Slot::Byte(action)),
+        Message::AlertCommand { alert, operation } => row!(
             0x03,
-            &[Slot::Byte(alert), Slot::Byte(operation)],
+            Slot::Byte(alert),
+            Slot::Byte(operation)
         ),
-        Message::AlertUpdate { alert, status } => row(
+        Message::AlertUpdate { alert, status } => row!(
             0x03,
-            &[Slot::Byte(alert), Slot::Byte(4), Slot::AlertStatus(status)],
+            Slot::Byte(alert),
+            Slot::Byte(4),
+            Slot::AlertStatus(status)
         ),
-        Message::Detached { port } => row(0x04, &[Slot::Byte(port), Slot::Byte(0)]),
+        Message::Detached { port } => row!(0x04, Slot::Byte(port), Slot::Byte(0)),
         Message::Attached {
             port,
             device,
             hardware,
             software,
-        } => row(
+        } => row!(
             0x04,
-            &[
-                Slot::Byte(port),
-                Slot::Byte(1),
-                Slot::Word(device),
-                Slot::SignedLong(hardware),
-                Slot::SignedLong(software),
-            ],
+            Slot::Byte(port),
+            Slot::Byte(1),
+            Slot::Word(device),
+            Slot::SignedLong(hardware),
+            Slot::SignedLong(software)
         ),
         Message::AttachedVirtual {
             port,
             device,
             port_a,
             port_b,
-        } => row(
+        } => row!(
             0x04,
-            &[
-                Slot::Byte(port),
-                Slot::Byte(2),
-                Slot::Word(device),
-                Slot::Byte(port_a),
-                Slot::Byte(port_b),
-            ],
+            Slot::Byte(port),
+            Slot::Byte(2),
+            Slot::Word(device),
+            Slot::Byte(port_a),
+            Slot::Byte(port_b)
         ),
-        Message::GenericError { command, error } => row(
+        Message::GenericError { command, error } => row!(
             0x05,
-            &[
-                Slot::Byte(command),
-                Slot::Between {
-                    least: 1,
-                    most: 8,
-                    value: error,
-                },
-            ],
+            Slot::Byte(command),
+            Slot::Between {
+                least: 1,
+                most: 8,
+                value: error,
+            }
         ),
-        Message::GoIntoBootMode => row(0x10, &[Slot::BootString]),
-        Message::LockMemory => row(0x11, &[Slot::LockString]),
-        Message::LockStatusRequest => row(0x12, &[]),
-        Message::LockStatus { status } => row(0x13, &[Slot::Byte(status)]),
-        Message::PortInformationRequest { port, information } => row(
+        Message::GoIntoBootMode => row!(0x10, Slot::BootString),
+        Message::LockMemory => row!(0x11, Slot::LockString),
+        Message::LockStatusRequest => row!(0x12),
+        Message::LockStatus { status } => row!(0x13, Slot::Byte(status)),
+        Message::PortInformationRequest { port, information } => row!(
             0x21,
-            &[
-                Slot::Byte(port),
-                Slot::UpTo {
-                    most: 2,
-                    value: information,
-                },
-            ],
+            Slot::Byte(port),
+            Slot::UpTo {
+                most: 2,
+                value: information,
+            }
         ),
         Message::ModeInformationRequest {
             port,
             mode,
             information,
-        } => row(
+        } => row!(
             0x22,
-            &[
-                Slot::Byte(port),
-                Slot::UpTo {
-                    most: 15,
-                    value: mode,
-                },
-                Slot::InformationType(information),
-            ],
+            Slot::Byte(port),
+            Slot::UpTo {
+                most: 15,
+                value: mode,
+            },
+            Slot::InformationType(information)
         ),
         Message::InputFormatSetup {
             port,
             mode,
             delta,
             notify,
-        } => row(
+        } => row!(
             0x41,
-            &[
-                Slot::Byte(port),
-                Slot::UpTo {
-                    most: 15,
-                    value: mode,
-                },
-                Slot::Long(delta),
-                Slot::UpTo {
-                    most: 1,
-                    value: notify,
-                },
-            ],
+            Slot::Byte(port),
+            Slot::UpTo {
+                most: 15,
+                value: mode,
+            },
+            Slot::Long(delta),
+            Slot::UpTo {
+                most: 1,
+                value: notify,
+            }
         ),
         Message::PortModes {
             port,
@@ -217,35 +224,31 @@ pub fn slots_of(m: Message) -> [Slot; 11]
             mode_count,
             input_modes,
             output_modes,
-        } => row(
+        } => row!(
             0x43,
-            &[
-                Slot::Byte(port),
-                Slot::Byte(1),
-                Slot::UpTo {
-                    most: 15,
-                    value: capabilities,
-                },
-                Slot::Byte(mode_count),
-                Slot::Word(input_modes),
-                Slot::Word(output_modes),
-            ],
+            Slot::Byte(port),
+            Slot::Byte(1),
+            Slot::UpTo {
+                most: 15,
+                value: capabilities,
+            },
+            Slot::Byte(mode_count),
+            Slot::Word(input_modes),
+            Slot::Word(output_modes)
         ),
         Message::PortCombinations { port, combinations } => combination_row(port, combinations),
         Message::ModeText {
             port,
             mode,
             information,
-        } => row(
+        } => row!(
             0x44,
-            &[
-                Slot::Byte(port),
-                Slot::UpTo {
-                    most: 15,
-                    value: mode,
-                },
-                Slot::Byte(information),
-            ],
+            Slot::Byte(port),
+            Slot::UpTo {
+                most: 15,
+                value: mode,
+            },
+            Slot::Byte(information)
         ),
         Message::ModeRange {
             port,
@@ -253,61 +256,53 @@ pub fn slots_of(m: Message) -> [Slot; 11]
             information,
             lowest,
             highest,
-        } => row(
+        } => row!(
             0x44,
-            &[
-                Slot::Byte(port),
-                Slot::UpTo {
-                    most: 15,
-                    value: mode,
-                },
-                Slot::Byte(information),
-                Slot::Float(lowest),
-                Slot::Float(highest),
-            ],
+            Slot::Byte(port),
+            Slot::UpTo {
+                most: 15,
+                value: mode,
+            },
+            Slot::Byte(information),
+            Slot::Float(lowest),
+            Slot::Float(highest)
         ),
         Message::ModeMapping {
             port,
             mode,
             mapping,
-        } => row(
+        } => row!(
             0x44,
-            &[
-                Slot::Byte(port),
-                Slot::UpTo {
-                    most: 15,
-                    value: mode,
-                },
-                Slot::Byte(5),
-                Slot::Word(mapping),
-            ],
+            Slot::Byte(port),
+            Slot::UpTo {
+                most: 15,
+                value: mode,
+            },
+            Slot::Byte(5),
+            Slot::Word(mapping)
         ),
-        Message::ModeBias { port, mode, bias } => row(
+        Message::ModeBias { port, mode, bias } => row!(
             0x44,
-            &[
-                Slot::Byte(port),
-                Slot::UpTo {
-                    most: 15,
-                    value: mode,
-                },
-                Slot::Byte(7),
-                Slot::UpTo {
-                    most: 100,
-                    value: bias,
-                },
-            ],
+            Slot::Byte(port),
+            Slot::UpTo {
+                most: 15,
+                value: mode,
+            },
+            Slot::Byte(7),
+            Slot::UpTo {
+                most: 100,
+                value: bias,
+            }
         ),
-        Message::ModeCapabilities { port, mode, bits } => row(
+        Message::ModeCapabilities { port, mode, bits } => row!(
             0x44,
-            &[
-                Slot::Byte(port),
-                Slot::UpTo {
-                    most: 15,
-                    value: mode,
-                },
-                Slot::Byte(8),
-                Slot::HighFirst(bits),
-            ],
+            Slot::Byte(port),
+            Slot::UpTo {
+                most: 15,
+                value: mode,
+            },
+            Slot::Byte(8),
+            Slot::HighFirst(bits)
         ),
         Message::ValueFormat {
             port,
@@ -316,53 +311,51 @@ pub fn slots_of(m: Message) -> [Slot; 11]
             kind,
             figures,
             decimals,
-        } => row(
+        } => row!(
             0x44,
-            &[
-                Slot::Byte(port),
-                Slot::UpTo {
-                    most: 15,
-                    value: mode,
-                },
-                Slot::Byte(0x80),
-                Slot::Between {
-                    least: 1,
-                    most: 16,
-                    value: datasets,
-                },
-                Slot::UpTo {
-                    most: 3,
-                    value: kind,
-                },
-                Slot::Byte(figures),
-                Slot::Byte(decimals),
-            ],
+            Slot::Byte(port),
+            Slot::UpTo {
+                most: 15,
+                value: mode,
+            },
+            Slot::Byte(0x80),
+            Slot::Between {
+                least: 1,
+                most: 16,
+                value: datasets,
+            },
+            Slot::UpTo {
+                most: 3,
+                value: kind,
+            },
+            Slot::Byte(figures),
+            Slot::Byte(decimals)
         ),
-        Message::PortValue { port } => row(0x45, &[Slot::Byte(port)]),
+        Message::PortValue { port } => row!(0x45, Slot::Byte(port)),
         Message::InputFormat {
             port,
             mode,
             delta,
             notify,
-        } => row(
+        } => row!(
             0x47,
-            &[
-                Slot::Byte(port),
-                Slot::UpTo {
-                    most: 15,
-                    value: mode,
-                },
-                Slot::Long(delta),
-                Slot::UpTo {
-                    most: 1,
-                    value: notify,
-                },
-            ],
+            Slot::Byte(port),
+            Slot::UpTo {
+                most: 15,
+                value: mode,
+            },
+            Slot::Long(delta),
+            Slot::UpTo {
+                most: 1,
+                value: notify,
+            }
         ),
-        Message::VirtualDisconnect { port } => row(0x61, &[Slot::Byte(0), Slot::Byte(port)]),
-        Message::VirtualConnect { port_a, port_b } => row(
+        Message::VirtualDisconnect { port } => row!(0x61, Slot::Byte(0), Slot::Byte(port)),
+        Message::VirtualConnect { port_a, port_b } => row!(
             0x61,
-            &[Slot::Byte(1), Slot::Byte(port_a), Slot::Byte(port_b)],
+            Slot::Byte(1),
+            Slot::Byte(port_a),
+            Slot::Byte(port_b)
         ),
         Message::StartSpeedForDegrees {
             port,
@@ -373,25 +366,23 @@ pub fn slots_of(m: Message) -> [Slot; 11]
             power,
             end_state,
             profile,
-        } => row(
+        } => row!(
             0x81,
-            &[
-                Slot::Byte(port),
-                Slot::StartByte(start),
-                Slot::Byte(0x0C),
-                Slot::Degrees(degrees),
-                Slot::SignedSpeed(speed_left),
-                Slot::SignedSpeed(speed_right),
-                Slot::UpTo {
-                    most: 100,
-                    value: power,
-                },
-                Slot::EndState(end_state),
-                Slot::UpTo {
-                    most: 3,
-                    value: profile,
-                },
-            ],
+            Slot::Byte(port),
+            Slot::StartByte(start),
+            Slot::Byte(0x0C),
+            Slot::Degrees(degrees),
+            Slot::SignedSpeed(speed_left),
+            Slot::SignedSpeed(speed_right),
+            Slot::UpTo {
+                most: 100,
+                value: power,
+            },
+            Slot::EndState(end_state),
+            Slot::UpTo {
+                most: 3,
+                value: profile,
+            }
         ),
         Message::GotoAbsolutePosition {
             port,
@@ -401,28 +392,26 @@ pub fn slots_of(m: Message) -> [Slot; 11]
             power,
             end_state,
             profile,
-        } => row(
+        } => row!(
             0x81,
-            &[
-                Slot::Byte(port),
-                Slot::StartByte(start),
-                Slot::Byte(0x0D),
-                Slot::SignedLong(position),
-                Slot::Between {
-                    least: 1,
-                    most: 100,
-                    value: speed,
-                },
-                Slot::UpTo {
-                    most: 100,
-                    value: power,
-                },
-                Slot::EndState(end_state),
-                Slot::UpTo {
-                    most: 3,
-                    value: profile,
-                },
-            ],
+            Slot::Byte(port),
+            Slot::StartByte(start),
+            Slot::Byte(0x0D),
+            Slot::SignedLong(position),
+            Slot::Between {
+                least: 1,
+                most: 100,
+                value: speed,
+            },
+            Slot::UpTo {
+                most: 100,
+                value: power,
+            },
+            Slot::EndState(end_state),
+            Slot::UpTo {
+                most: 3,
+                value: profile,
+            }
         ),
         Message::GotoAbsolutePositions {
             port,
@@ -433,63 +422,63 @@ pub fn slots_of(m: Message) -> [Slot; 11]
             power,
             end_state,
             profile,
-        } => row(
+        } => row!(
             0x81,
-            &[
-                Slot::Byte(port),
-                Slot::StartByte(start),
-                Slot::Byte(0x0E),
-                Slot::SignedLong(position_1),
-                Slot::SignedLong(position_2),
-                Slot::Between {
-                    least: 1,
-                    most: 100,
-                    value: speed,
-                },
-                Slot::UpTo {
-                    most: 100,
-                    value: power,
-                },
-                Slot::EndState(end_state),
-                Slot::UpTo {
-                    most: 3,
-                    value: profile,
-                },
-            ],
+            Slot::Byte(port),
+            Slot::StartByte(start),
+            Slot::Byte(0x0E),
+            Slot::SignedLong(position_1),
+            Slot::SignedLong(position_2),
+            Slot::Between {
+                least: 1,
+                most: 100,
+                value: speed,
+            },
+            Slot::UpTo {
+                most: 100,
+                value: power,
+            },
+            Slot::EndState(end_state),
+            Slot::UpTo {
+                most: 3,
+                value: profile,
+            }
         ),
         Message::PresetEncoders {
             port,
             start,
             left,
             right,
-        } => row(
+        } => row!(
             0x81,
-            &[
-                Slot::Byte(port),
-                Slot::StartByte(start),
-                Slot::Byte(0x14),
-                Slot::SignedLong(left),
-                Slot::SignedLong(right),
-            ],
+            Slot::Byte(port),
+            Slot::StartByte(start),
+            Slot::Byte(0x14),
+            Slot::SignedLong(left),
+            Slot::SignedLong(right)
         ),
-        Message::OutputFeedback => row(0x82, &[]),
+        Message::OutputFeedback => row!(0x82),
         Message::CombinedSetup { port, sub_command } => {
-            row(0x42, &[Slot::Byte(port), Slot::Byte(sub_command)])
+            row!(0x42, Slot::Byte(port), Slot::Byte(sub_command))
         }
-        Message::ModeDatasets { port, combination } => row(
+        Message::ModeDatasets { port, combination } => row!(
             0x42,
-            &[Slot::Byte(port), Slot::Byte(1), Slot::Byte(combination)],
+            Slot::Byte(port),
+            Slot::Byte(1),
+            Slot::Byte(combination)
         ),
         Message::PortValueCombined { port, pointers } => {
-            row(0x46, &[Slot::Byte(port), Slot::Word(pointers)])
+            row!(0x46, Slot::Byte(port), Slot::Word(pointers))
         }
         Message::InputFormatCombined {
             port,
             control,
             pointers,
-        } => row(
+        } => row!(
             0x48,
-            &[Slot::Byte(port), Slot::Byte(control), Slot::Word(pointers)],
+            Slot::Byte(port),
+            Slot::Byte(control),
+            Slot::Word(pointers)
         ),
     }
 }

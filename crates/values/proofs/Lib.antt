@@ -1,3 +1,4 @@
 pub mod Finite
 pub mod ValueAnswers
+pub mod Wholes
 pub mod Plans

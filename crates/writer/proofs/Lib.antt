@@ -5,3 +5,4 @@ pub mod Walk
 pub mod Whole
 pub mod Rests
 pub mod Sizes
+pub mod Copying

@@ -6,12 +6,15 @@ ghost use Rattle.slots.specs.Slot.{slot_fits, slot_bytes};
 use hub_messages::firmware::{BOOT_STRING, LOCK_STRING};
 use slots::Slot;
 
-// Overwrites `out` from a place on with bytes.
+// Overwrites `out` from a place on with bytes. They go one by one, since `copy_from_slice` wants a function (`memmove`) of the C
+// library's that no other call of the archive does.
 pub(crate) fn put_bytes(out: &mut [u8], at: usize, bytes: &[u8])
     requires { at + length bytes.now ≤ length out.old }
     ensures { out.new ≡ overwrite out.old at bytes.now }
 {
-    out[at..at + bytes.len()].copy_from_slice(bytes);
+    for i in 0..bytes.len() {
+        out[at + i] = bytes[i];
+    }
 }
 
 // Overwrites `out` from a place on with the slot's bytes.

@@ -4,8 +4,8 @@ use Rattle.std.proofs.lemmas.List.{get_or_read, get_or-drop}
 use Rattle.numbers.proofs.FromFn.{each}
 use Rattle.numbers.proofs.bytes_at.Goals as goal
 
-pub returns : goal.returns
-returns g c =
+pub returns-in-None : goal.returns-in-None
+returns-in-None g c =
     let a = c.args in
     let rest = c.unwrap_or-rest.result.now in
     let part : rest ≡ drop a.at a.s.now = grind (arith, common_steps) in

@@ -1,16 +1,25 @@
-use Rattle.std.proofs.Common.{◌≡◌, ℕ, true, false, arith, rules, tests}
+use Rattle.std.proofs.Common.{◌<◌, ◌≤◌, ◌*◌, ◌+◌, ℕ, arith, rules, tests}
 use Rattle.std.proofs.lemmas.Iterator.{first_from_Range}
 use Rattle.std.proofs.lemmas.List.{get_or_read}
-use Rattle.protocol.specs.Form.{feedback}
-use Rattle.hub_messages.proofs.Runs.{found}
+use lib.ListN.{get_or}
+use Rattle.hub_messages.proofs.Pairs.{none_found, first_found}
 use Rattle.hub_messages.proofs.rule.wrong_feedback.Goals as goal
 
-pub returns : goal.returns
-unfolding feedback
-returns c =
+pub returns-in_err-pair-clause-first : goal.returns-in_err-pair-clause-first
+returns-in_err-pair-clause-first c =
     let run = c.args.pairs.now in
-    let f = found feedback run c.find.result
-    (first_from_Range _ _ _ _ (λ (i : ℕ). feedback run i ≡ false) (λ (i : ℕ). feedback run i ≡ true) c.find.ensures.ran
+    let none = none_found run c.find.result
+    (first_from_Range _ _ _ _ (λ (k : ℕ). 31 < get_or run (2 * k + 1) 0) (λ (k : ℕ). get_or run (2 * k + 1) 0 ≤ 31) c.find.ensures.ran
     (λ x q k. grind (arith, tests, get_or_read))
-    (λ x q k. (search rules, grind (arith, tests, get_or_read)))) in
-    record { first = f.first; inside = f.inside }
+    (λ x q k. (search rules, grind (arith, tests, get_or_read))))
+    c.in_err-pair.was in
+    rw c.from_residual.ensures none
+
+pub returns-clause-first : goal.returns-clause-first
+returns-clause-first c =
+    let run = c.args.pairs.now in
+    first_found run c.find.result
+    (first_from_Range _ _ _ _ (λ (k : ℕ). 31 < get_or run (2 * k + 1) 0) (λ (k : ℕ). get_or run (2 * k + 1) 0 ≤ 31) c.find.ensures.ran
+    (λ x q k. grind (arith, tests, get_or_read))
+    (λ x q k. (search rules, grind (arith, tests, get_or_read))))
+    c.in_ok-pair.pair c.in_ok-pair.was

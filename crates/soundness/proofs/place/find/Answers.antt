@@ -1,8 +1,9 @@
-use Prim.Native.Nat.{ℕ}
+use Prim.Native.Nat.{ℕ, ◌<◌}
 use native.Mathlib.Omega.{arith}
 use mathlib.Core.Path.{sym, ◌∙◌, ap}
 use mathlib.Core.List.{List}
 use lib.ListN.{length}
+use Rattle.rules.specs.Layout.{places}
 use Rattle.soundness.specs.Place.{find_place}
 use Rattle.soundness.proofs.Places.{find_place_lem, no_place, place_start, place_here, place_later, place_end, step_on, step_last}
 use Rattle.soundness.proofs.place.find.Goals as goal
@@ -21,14 +22,14 @@ returns-then-is_at c =
     let cells = c.in_ok-table.table.now in
     let port = c.args.port in
     let loop = c.loop-i in
-    let below = c.loop-i-test.true in
+    let below : loop.i < places = omega (arith, c.loop-i-test.true) in
     let is = step_last _ loop.i _ loop.invariant (place_here cells loop.i port below (sym c.is_at.ensures ∙ c.if-is_at.true)) in
     (below, is ∙ ap (λ (l : List ℕ). find_place l port) c.in_ok-table.ensures.cases.same)
 
 pub loop-i-preserved : goal.loop-i-preserved
 loop-i-preserved c =
     let loop = c.loop-i in
-    let below = c.loop-i-test.true in
+    let below : loop.i < places = omega (arith, c.loop-i-test.true) in
     step_on _ loop.i _ _ loop.invariant (place_later c.in_ok-table.table.now loop.i c.args.port below (sym c.is_at.ensures ∙ c.if-is_at.false))
 
 pub returns : goal.returns

@@ -1,4 +1,5 @@
-use Prim.Native.Nat.{◌-◌}
+use Prim.Native.Nat.{◌-◌, ◌<◌}
+use native.Mathlib.Omega.{arith}
 use mathlib.Core.Path.{sym, ◌∙◌, ap}
 use mathlib.Core.Bool.{Bool, ◌&&◌}
 use Rattle.soundness.proofs.Loops.{joins, joined}
@@ -13,7 +14,8 @@ loop-mode-preserved c =
     let place = c.args.place.now in
     let loop = c.loop-mode in
     let later : Bool = formats_below place (loop.mode - 1) in
-    let next = formats_next place loop.mode loop.auto.mode c.loop-mode-test.true ∙ ap (λ (b : Bool). b && later) (sym c.format_fits-fit.ensures) in
+    let left : 0 < loop.mode = omega (arith, c.loop-mode-test.true) in
+    let next = formats_next place loop.mode loop.auto.mode left ∙ ap (λ (b : Bool). b && later) (sym c.format_fits-fit.ensures) in
     joins loop.fit c.format_fits-fit.result later loop.invariant next
 
 pub returns : goal.returns

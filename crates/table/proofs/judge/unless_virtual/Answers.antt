@@ -9,12 +9,13 @@ use Rattle.table.proofs.Judging.{physical_at, virtual_at, refusal_is}
 use Rattle.table.proofs.judge.unless_virtual.Goals as goal
 
 pub returns-then-wiring-eq-UNJOINED : goal.returns-then-wiring-eq-UNJOINED
-returns-then-wiring-eq-UNJOINED c = λ e.
+returns-then-wiring-eq-UNJOINED c =
     let n = number_of c.args.refusal in
-    refusal_is c.args.refusal e
-    ∙ sym (ap (λ (x : Option Facts). tested (refusal_unless_virtual n x)) c.in_ok-place.ensures.1 ∙ ap (λ (b : Bool). tested (cond b 0 n)) (physical_at c.args.table.cells.now c.in_ok-place.place c.then-wiring-eq-UNJOINED.either))
+    let is = ap (refusal_unless_virtual n) c.in_ok-place.ensures.1 ∙ ap (λ (b : Bool). cond b 0 n) (physical_at c.args.table.cells.now c.in_ok-place.place c.then-wiring-eq-UNJOINED.either) in
+    (sym is, λ e. refusal_is c.args.refusal e ∙ sym (ap tested is))
 
 pub returns : goal.returns
-returns c = λ _.
+returns c =
     let n = number_of c.args.refusal in
-    sym (ap (λ (x : Option Facts). tested (refusal_unless_virtual n x)) c.in_ok-place.ensures.1 ∙ ap (λ (b : Bool). tested (cond b 0 n)) (virtual_at c.args.table.cells.now c.in_ok-place.place c.if-wiring-eq-UNJOINED.false c.if-wiring-eq-JOINED.false))
+    let is = ap (refusal_unless_virtual n) c.in_ok-place.ensures.1 ∙ ap (λ (b : Bool). cond b 0 n) (virtual_at c.args.table.cells.now c.in_ok-place.place c.if-wiring-eq-UNJOINED.false c.if-wiring-eq-JOINED.false) in
+    (sym is, λ _. sym (ap tested is))
