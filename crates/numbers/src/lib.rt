@@ -15,8 +15,17 @@ fn bytes_at<const N: usize>(s: &[u8], at: usize) -> [u8; N]
     let rest = s.get(at..).unwrap_or(&[]);
     match rest.first_chunk::<N>() {
         Some(bytes) => *bytes,
-        None => array::from_fn(|k| rest.get(k).copied().unwrap_or(0)),
+        None => padded(rest),
     }
+}
+
+// So many bytes from the start on, 0 for each that is missing: `cold`, so that the reading of bytes that are there stays
+// small enough to be inlined.
+#[cold]
+fn padded<const N: usize>(rest: &[u8]) -> [u8; N]
+    ensures { (k : ℕ) → k < N → get_or result k 0 ≡ get_or rest.now k 0 }
+{
+    array::from_fn(|k| rest.get(k).copied().unwrap_or(0))
 }
 
 // Two bytes, least significant first.
@@ -58,12 +67,13 @@ pub fn i32_of(n: u32) -> i32
     n.cast_signed()
 }
 
-// Whether the f32 of four bytes is neither an infinity nor a NaN.
-#[tactic(auto, using(crate::proofs::Floats::finite_same))]
+// Whether the f32 of four bytes is neither an infinity nor a NaN: its bits, the sign's left out, are below the
+// infinity's.
+#[tactic(auto, using(crate::proofs::Floats::finite_below))]
 pub fn finite_at(s: &[u8], at: usize) -> bool
     ensures { result ≡ is_finite (of_bits binary32 (little_endian s.now at 4)) }
 {
-    f32_at(s, at).is_finite()
+    u32_at(s, at) % 2147483648 < 2139095040
 }
 
 // The f32 of four bytes. A NaN is made apart, since `from_bits` takes no NaN's bits: those above the
