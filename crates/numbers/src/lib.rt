@@ -69,7 +69,6 @@ pub fn i32_of(n: u32) -> i32
 
 // Whether the f32 of four bytes is neither an infinity nor a NaN: its bits, the sign's left out, are below the
 // infinity's.
-#[tactic(auto, using(crate::proofs::Floats::finite_below))]
 pub fn finite_at(s: &[u8], at: usize) -> bool
     ensures { result ≡ is_finite (of_bits binary32 (little_endian s.now at 4)) }
 {
